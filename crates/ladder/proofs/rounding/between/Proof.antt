@@ -1,0 +1,78 @@
+-- The one division: a threshold inside the ladder falls between two neighbours of the band where it lands.
+use denote.Ref.{now}
+use borrow.Author.Needs.{needs}
+use native.Mathlib.Omega.{arith}
+use Rattle.ladder.specs.Layout.{bandsOf}
+use Rattle.ladder.proofs.Tables.Gaps.{inside, divisor, starts-below, gap-fits, spreads-fit, is-between}
+use Rattle.ladder.proofs.rounding.between.Statement.{statement}
+use Rattle.ladder.proofs.rounding.between.Tie as tie
+
+bands-below-requires : tie.Need-bands-below-requires
+bands-below-requires c κs = search needs
+
+band-at-requires : tie.Need-band-at-requires
+band-at-requires c κs =
+    let s = c .before .before in
+    let k = c .bands-below in
+    inside (bandsOf (now (s .args .table))) (s .pre .0) (s .args .scale) (s .args .y) (s .pre .1 .0) (s .pre .1 .1) (k .result) (k .ensures)
+
+sub-spreads : tie.Need-sub-spreads
+sub-spreads c = search needs
+
+product-requires : tie.Need-product-requires
+product-requires c κs = search needs
+
+sub-spreads-2 : tie.Need-sub-spreads-2
+sub-spreads-2 c =
+    let s = c .before .before .before .before in
+    let k = c .before .before .bands-below in
+    let b = c .before .band-at in
+    omega (arith, starts-below (bandsOf (now (s .args .table))) (s .pre .0) (s .args .scale) (s .args .y) (s .pre .1 .0) (s .pre .1 .1) (k .result) (k .ensures) (b .result) (b .ensures), c .product .ensures)
+
+product-requires-2 : tie.Need-product-requires-2
+product-requires-2 c κs = search needs
+
+div-spreads : tie.Need-div-spreads
+div-spreads c =
+    let s = c .before .before .before .before .before in
+    let k = c .before .before .before .bands-below in
+    let b = c .before .before .band-at in
+    rw (c .product2 .ensures) (divisor (bandsOf (now (s .args .table))) (s .pre .0) (s .args .scale) (s .args .y) (s .pre .1 .0) (s .pre .1 .1) (k .result) (k .ensures) (b .result) (b .ensures))
+
+cast-below : tie.Need-cast-below
+cast-below c =
+    let s = c .before .before .before .before .before in
+    let k = c .before .before .before .bands-below in
+    let b = c .before .before .band-at in
+    rw (c .before .product .ensures, c .product2 .ensures) (omega (arith, gap-fits (bandsOf (now (s .args .table))) (s .pre .0) (s .args .scale) (s .args .y) (s .pre .1 .0) (s .pre .1 .1) (k .result) (k .ensures) (b .result) (b .ensures), spreads-fit (bandsOf (now (s .args .table))) (s .pre .0) (s .args .scale) (s .args .y) (s .pre .1 .0) (s .pre .1 .1) (k .result) (k .ensures) (b .result) (b .ensures)))
+
+mul-below : tie.Need-mul-below
+mul-below c =
+    let s = c .before .before .before .before .before in
+    let k = c .before .before .before .bands-below in
+    let b = c .before .before .band-at in
+    rw (c .before .product .ensures, c .product2 .ensures) (omega (arith, gap-fits (bandsOf (now (s .args .table))) (s .pre .0) (s .args .scale) (s .args .y) (s .pre .1 .0) (s .pre .1 .1) (k .result) (k .ensures) (b .result) (b .ensures), spreads-fit (bandsOf (now (s .args .table))) (s .pre .0) (s .args .scale) (s .args .y) (s .pre .1 .0) (s .pre .1 .1) (k .result) (k .ensures) (b .result) (b .ensures)))
+
+add-below : tie.Need-add-below
+add-below c =
+    let s = c .before .before .before .before .before in
+    let k = c .before .before .before .bands-below in
+    let b = c .before .before .band-at in
+    rw (c .before .product .ensures, c .product2 .ensures) (omega (arith, gap-fits (bandsOf (now (s .args .table))) (s .pre .0) (s .args .scale) (s .args .y) (s .pre .1 .0) (s .pre .1 .1) (k .result) (k .ensures) (b .result) (b .ensures), spreads-fit (bandsOf (now (s .args .table))) (s .pre .0) (s .args .scale) (s .args .y) (s .pre .1 .0) (s .pre .1 .1) (k .result) (k .ensures) (b .result) (b .ensures)))
+
+add-t14 : tie.Need-add-t14
+add-t14 c =
+    let s = c .before .before .before .before .before in
+    let k = c .before .before .before .bands-below in
+    let b = c .before .before .band-at in
+    rw (c .before .product .ensures, c .product2 .ensures) (omega (arith, gap-fits (bandsOf (now (s .args .table))) (s .pre .0) (s .args .scale) (s .args .y) (s .pre .1 .0) (s .pre .1 .1) (k .result) (k .ensures) (b .result) (b .ensures), spreads-fit (bandsOf (now (s .args .table))) (s .pre .0) (s .args .scale) (s .args .y) (s .pre .1 .0) (s .pre .1 .1) (k .result) (k .ensures) (b .result) (b .ensures)))
+
+returns : tie.Need-returns
+returns c =
+    let s = c .before .before .before .before .before in
+    let k = c .before .before .before .bands-below in
+    let b = c .before .before .band-at in
+    rw (c .before .product .ensures, c .product2 .ensures) (is-between (bandsOf (now (s .args .table))) (s .pre .0) (s .args .scale) (s .args .y) (s .pre .1 .0) (s .pre .1 .1) (k .result) (k .ensures) (b .result) (b .ensures))
+
+pub between-spec : {M : Type 1} → statement M
+between-spec = tie.close (tie.spec bands-below-requires band-at-requires sub-spreads product-requires sub-spreads-2 product-requires-2 div-spreads cast-below mul-below add-below add-t14 returns)

@@ -1,0 +1,114 @@
+-- The walk up, band by band.
+use mathlib.Core.Path.{_≡_, ap, sym, _∙_}
+use Prim.Native.Nat.{_+_, _-_, _≤_}
+use denote.Ref.{now}
+use borrow.Author.Needs.{needs}
+use native.Mathlib.Omega.{arith}
+use lib.ListN.{length}
+use Rattle.ladder.specs.declared.Band.{Band}
+use Rattle.ladder.specs.Layout.{bandsOf, pricesOf}
+use Rattle.ladder.specs.Spreads.{times, spreadUp}
+use Rattle.ladder.specs.Arithmetic.{StandsIn}
+use Rattle.ladder.proofs.Tables.Table.{table-facts, band-facts}
+use Rattle.ladder.proofs.Tables.Walks.{up-ends, up-leaves, into-next, up-halts}
+use Rattle.ladder.proofs.steps.walk_up.Statement.{statement}
+use Rattle.ladder.proofs.steps.walk_up.Tie as tie
+
+-- the walk stands in band k, and the spreads that are left lead where all n lead
+abbrev Inv-loop : tie.InvT-loop
+Inv-loop table band price n last k₀ at₀ left₀ k at left =
+    StandsIn (bandsOf table) k at × (times left (spreadUp (pricesOf table)) at ≡ times n (spreadUp (pricesOf table)) price)
+
+-- the bands that are left
+abbrev μ-loop : tie.MeasureT-loop
+μ-loop table band price n last k₀ at₀ left₀ k at left = length (bandsOf table) - k
+
+count-requires : tie.Need-count-requires Inv-loop μ-loop
+count-requires c κs = search needs
+
+sub-last : tie.Need-sub-last Inv-loop μ-loop
+sub-last c =
+    let s = c .before .before in
+    omega (arith, table-facts (bandsOf (now (s .args .table))) (s .pre .0) .some)
+
+loop-holds : tie.Need-loop-holds Inv-loop μ-loop
+loop-holds c = search needs
+
+band-at-requires : tie.Need-band-at-requires Inv-loop μ-loop
+band-at-requires c κs = search needs
+
+sub-turn-in : tie.Need-sub-turn-in Inv-loop μ-loop
+sub-turn-in c =
+    let s = c .before .before .before .before .before in
+    let l = c .before .before .loop in
+    let b = c .before .band-at in
+    let end = ap (λ (x : Band). x .top) (b .ensures) in
+    omega (arith, end, l .inv .0 .high, band-facts (bandsOf (now (s .args .table))) (s .pre .0) (l .k) (l .inv .0 .index) (b .result) (b .ensures))
+
+turn-in-requires : tie.Need-turn-in-requires Inv-loop μ-loop
+turn-in-requires c κs =
+    let s = c .before .before .before .before .before in
+    let l = c .before .before .loop in
+    let b = c .before .band-at in
+    band-facts (bandsOf (now (s .args .table))) (s .pre .0) (l .k) (l .inv .0 .index) (b .result) (b .ensures) .spreads
+
+enum-known-turn : tie.Need-enum-known-turn Inv-loop μ-loop
+enum-known-turn c = search needs
+
+-- the walk ends in this band
+ends : (c : tie.After-known-told Inv-loop μ-loop) →
+    let s = c .before .before .before .before .before .before .before .before .before in
+    let l = c .before .before .before .before .before .before .loop in
+    let b = c .before .before .before .before .before .band-at .result in
+    let mils = c .before .turn .given .0 .0 in
+    (l .at + mils ≤ b .top) × (times (l .left) (spreadUp (pricesOf (now (s .args .table)))) (l .at) ≡ l .at + mils)
+ends c =
+    let s = c .before .before .before .before .before .before .before .before .before in
+    let l = c .before .before .before .before .before .before .loop in
+    let b = c .before .before .before .before .before .band-at in
+    up-ends (bandsOf (now (s .args .table))) (s .pre .0) (l .k) (l .at) (l .inv .0) (b .result) (b .ensures) (l .left) (c .before .turn .given .0 .0)
+    (sym (c .before .before .before .turn-in .ensures) ∙ c .before .turn .given .1)
+
+add-result : tie.Need-add-result Inv-loop μ-loop
+add-result c = omega (arith, ends c .0)
+
+returns : tie.Need-returns Inv-loop μ-loop
+returns c = sym (ends c .1) ∙ c .before .before .before .before .before .before .loop .inv .1
+
+enum-known-turn-2 : tie.Need-enum-known-turn-2 Inv-loop μ-loop
+enum-known-turn-2 c = search needs
+
+-- the walk leaves this band with the spreads that are left
+leaves : (c : tie.After-known-told2 Inv-loop μ-loop) →
+    let s = c .before .before .before .before .before .before .before .before .before in
+    times (c .before .turn2 .given .0 .0) (spreadUp (pricesOf (now (s .args .table)))) (c .before .before .before .before .before .band-at .result .top) ≡
+    times (s .args .n) (spreadUp (pricesOf (now (s .args .table)))) (s .args .price)
+leaves c =
+    let s = c .before .before .before .before .before .before .before .before .before in
+    let l = c .before .before .before .before .before .before .loop in
+    let b = c .before .before .before .before .before .band-at in
+    sym
+    (up-leaves (bandsOf (now (s .args .table))) (s .pre .0) (l .k) (l .at) (l .inv .0) (b .result) (b .ensures) (l .left) (c .before .turn2 .given .0 .0)
+    (sym (c .before .before .before .turn-in .ensures) ∙ c .before .turn2 .given .1)) ∙
+    l .inv .1
+
+returns-2 : tie.Need-returns-2 Inv-loop μ-loop
+returns-2 c =
+    let s = c .before .before .before .before .before .before .before .before .before .before in
+    let b = c .before .before .before .before .before .before .band-at in
+    sym (up-halts (bandsOf (now (s .args .table))) (s .pre .0) (c .before .before .before .before .before .before .before .loop .k) (omega arith) (b .result) (b .ensures) (c .before .before .turn2 .given .0 .0)) ∙ leaves (c .before)
+
+add-k : tie.Need-add-k Inv-loop μ-loop
+add-k c = omega arith
+
+loop-less : tie.Need-loop-less Inv-loop μ-loop
+loop-less c = omega arith
+
+loop-again : tie.Need-loop-again Inv-loop μ-loop
+loop-again c =
+    let s = c .before .before .before .before .before .before .before .before .before .before in
+    let b = c .before .before .before .before .before .before .band-at in
+    (into-next (bandsOf (now (s .args .table))) (s .pre .0) (c .before .before .before .before .before .before .before .loop .k) (omega arith) (b .result) (b .ensures), leaves (c .before))
+
+pub walk-up-spec : {M : Type 1} → statement M
+walk-up-spec = tie.close (tie.spec Inv-loop μ-loop count-requires sub-last loop-holds band-at-requires sub-turn-in turn-in-requires enum-known-turn add-result returns enum-known-turn-2 returns-2 add-k loop-less loop-again)

@@ -1,0 +1,31 @@
+-- The last price is the last top.
+use mathlib.Core.Path.{sym}
+use Prim.Native.Nat.{_-_}
+use denote.Ref.{now}
+use borrow.Author.Needs.{needs}
+use native.Mathlib.Omega.{arith}
+use Rattle.ladder.specs.Layout.{bandsOf}
+use Rattle.ladder.proofs.Tables.Table.{table-facts, last-is-top}
+use Rattle.ladder.proofs.table.last_price.Statement.{statement}
+use Rattle.ladder.proofs.table.last_price.Tie as tie
+
+count-requires : tie.Need-count-requires
+count-requires c κs = search needs
+
+sub-last : tie.Need-sub-last
+sub-last c =
+    let s = c .before .before in
+    omega (arith, table-facts (bandsOf (now (s .args .table))) (s .pre) .some)
+
+band-at-requires : tie.Need-band-at-requires
+band-at-requires c κs =
+    let s = c .before .before in
+    omega (arith, table-facts (bandsOf (now (s .args .table))) (s .pre) .some)
+
+returns : tie.Need-returns
+returns c =
+    let s = c .before .before .before in
+    rw (c .band-at .ensures) (sym (last-is-top (bandsOf (now (s .args .table))) (s .pre) (c .before .count .result - 1) (omega (arith, table-facts (bandsOf (now (s .args .table))) (s .pre) .some))))
+
+pub last-price-spec : {M : Type 1} → statement M
+last-price-spec = tie.close (tie.spec count-requires sub-last band-at-requires returns)

@@ -1,0 +1,39 @@
+-- The ladder of a table: the rising list of all its prices; and a ladder price in document 01's own words.
+use Prim.Native.Nat.{ℕ, zero, suc, _+_, _-_, _/_, _%_}
+use mathlib.Core.Bool.{Bool, false, _&&_, _||_}
+use mathlib.Core.List.{List, [], _∷_, _++_}
+use lib.Dec.{eqb, ltb, leb}
+use Rattle.ladder.specs.declared.Band.{Band}
+
+-- how many spreads wide a band is
+abbrev pub width : Band → ℕ
+width b = (b .top - b .bottom) / b .spread
+
+-- the next n prices above a, a spread s apart
+unfoldable pub rungs : ℕ → ℕ → ℕ → List ℕ
+rungs s a zero = []
+rungs s a (suc n) = (a + s) ∷ rungs s (a + s) n
+
+-- the prices that the bands hold, band by band
+unfoldable pub held : List Band → List ℕ
+held [] = []
+held (b ∷ bs) = rungs (b .spread) (b .bottom) (width b) ++ held bs
+
+-- the ladder: the first bottom, and every price that a band holds
+unfoldable pub ladder : List Band → List ℕ
+ladder [] = []
+ladder (b ∷ bs) = b .bottom ∷ held (b ∷ bs)
+
+-- "a price in a band that exceeds the band's bottom by a multiple of its spread"
+abbrev pub inBand : ℕ → Band → Bool
+inBand p b = ltb (b .bottom) p && leb p (b .top) && eqb ((p - b .bottom) % b .spread) 0
+
+unfoldable pub inSomeBand : ℕ → List Band → Bool
+inSomeBand p [] = false
+inSomeBand p (b ∷ bs) = inBand p b || inSomeBand p bs
+
+-- "A ladder price is 10, or a price in a band that exceeds the band's bottom by a multiple of its spread": 10 is the first bottom.
+-- The law TheLadder says that the ladder holds exactly these.
+unfoldable pub isLadderPrice : ℕ → List Band → Bool
+isLadderPrice p [] = false
+isLadderPrice p (b ∷ bs) = eqb p (b .bottom) || inSomeBand p (b ∷ bs)

@@ -1,0 +1,51 @@
+// The one search for a band: where a threshold lands, and where a price stands.
+use super::bands;
+use super::rounding::product;
+ghost use mathlib.Core.Path.{_≡_};
+ghost use lib.Dec.{T};
+ghost use Rattle.ladder.specs.Layout.{bandsOf, isTable};
+ghost use Rattle.ladder.specs.Arithmetic.{bandsBelow, standingOf};
+
+// Where a price stands on a ladder.
+pub(crate) enum Standing {
+    // In the band of this index.
+    In(usize),
+    OffLadder,
+}
+
+// How many bands end where scale times the price is below y: the index of the band where y lands.
+pub(crate) fn bands_below(table: &[u32], scale: u32, y: u64) -> usize
+    ensures { λ r. ⌜ r ≡ bandsBelow scale y (bandsOf (now (table .entry))) ⌝ }
+{
+    let bands = bands::count(table);
+    let mut k = 0;
+    while k < bands {
+        let band = bands::band_at(table, k);
+        if y <= product(scale, band.top) {
+            return k;
+        }
+        k += 1;
+    }
+    k
+}
+
+// The band of a price, or that the price is off the ladder.
+pub(crate) fn standing_of(table: &[u32], price: u32) -> Standing
+    requires { ⌜ T (isTable (now table)) ⌝ }
+    ensures { λ r. ⌜ r ≡ standingOf price (bandsOf (now (table .entry))) ⌝ }
+{
+    let k = bands_below(table, 1, price as u64);
+    if bands::count(table) <= k {
+        return Standing::OffLadder;
+    }
+    let band = bands::band_at(table, k);
+    let bottom = band.bottom;
+    if price < bottom {
+        return Standing::OffLadder;
+    }
+    if (price - bottom) % band.spread == 0 {
+        Standing::In(k)
+    } else {
+        Standing::OffLadder
+    }
+}

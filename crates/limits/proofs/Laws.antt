@@ -1,0 +1,36 @@
+-- The laws of specs/Laws.antt, proved from the laws of the ladder.
+use mathlib.Core.Path.{_≡_}
+use Prim.Native.Nat.{ℕ, _*_, _≤_}
+use native.Mathlib.Nat.{mul-le-mul-left}
+use native.Mathlib.Omega.{arith}
+use lib.Dec.{T}
+use Rattle.ladder.specs.declared.Found.the-variants.{Price}
+use Rattle.ladder.specs.Bands.{phase1}
+use Rattle.ladder.specs.Ladder.{ladder, isLadderPrice}
+use Rattle.ladder.specs.Spreads.{ifHeld}
+use Rattle.ladder.proofs.Answers.{answered}
+use Rattle.ladder.proofs.Laws.{phase1-is, the-ladder, spreads-keep-order, rounding-keeps-order}
+use Rattle.limits.specs.Laws.{LimitsAreOrdered, HigherReference}
+
+pub limits-are-ordered : LimitsAreOrdered
+limits-are-ordered t wf scale factor p q h k m =
+    let spreads = spreads-keep-order t wf 24 p q h k m in
+    let rounded = rounding-keeps-order t wf scale (factor * p) (factor * q) (mul-le-mul-left factor m) in
+    record { lower = omega (arith, spreads .down, rounded .at-least); upper = omega (arith, spreads .up, rounded .at-most) }
+
+-- a reference that a limit is answered for is a ladder price
+on-ladder : (p answer q : ℕ) → ifHeld p (ladder phase1) answer ≡ Price q → T (isLadderPrice p phase1)
+on-ladder p answer q e = rw (← (the-ladder phase1 (phase1-is .well-formed) p), answered p (ladder phase1) answer q e .on) tt
+
+pub higher-reference : HigherReference
+higher-reference p q m =
+    record {
+      lower = λ a b e f. less a b _ _ e f (λ h k. limits-are-ordered phase1 (phase1-is .well-formed) 100 95 p q h k m .lower);
+      upper = λ a b e f. less a b _ _ e f (λ h k. limits-are-ordered phase1 (phase1-is .well-formed) 100 105 p q h k m .upper);
+    }
+  where
+    less : (a b x y : ℕ) → ifHeld p (ladder phase1) x ≡ Price a → ifHeld q (ladder phase1) y ≡ Price b →
+        (T (isLadderPrice p phase1) → T (isLadderPrice q phase1) → x ≤ y) → a ≤ b
+    less a b x y e f order =
+        omega
+        (arith, answered p (ladder phase1) x a e .is, answered q (ladder phase1) y b f .is, order (on-ladder p x a e) (on-ladder q y b f))

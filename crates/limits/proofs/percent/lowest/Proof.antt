@@ -1,0 +1,46 @@
+-- The price found, or the end of the ladder.
+use mathlib.Core.Path.{_≡_, ap, sym, _∙_}
+use Prim.Native.Nat.{_*_}
+use denote.Ref.{now}
+use borrow.Author.Needs.{needs}
+use Rattle.ladder.specs.Search.{first, orElse, atLeast}
+use Rattle.ladder.specs.Places.{lastPrice}
+use Rattle.ladder.specs.Layout.{pricesOf}
+use Rattle.limits.proofs.percent.lowest.Statement.{statement}
+use Rattle.limits.proofs.percent.lowest.Tie as tie
+
+product-requires : tie.Need-product-requires
+product-requires c κs = search needs
+
+at-least-requires : tie.Need-at-least-requires
+at-least-requires c κs = search needs
+
+enum-known-found : tie.Need-enum-known-found
+enum-known-found c = search needs
+
+enum-told : tie.Need-enum-told
+enum-told c = search needs
+
+last-price-requires : tie.Need-last-price-requires
+last-price-requires c κs = search needs
+
+-- what rounding found, against the percentage of the reference
+found : (c : tie.After-at-least) →
+    let s = c .before .before .before in
+    c .at-least .result ≡ first (atLeast (s .args .scale) (s .args .factor * s .args .reference)) (pricesOf (now (s .args .table)))
+found c =
+    let s = c .before .before .before in
+    c .at-least .ensures ∙ ap (λ y. first (atLeast (s .args .scale) y) (pricesOf (now (s .args .table)))) (c .before .product .ensures)
+
+returns : tie.Need-returns
+returns c =
+    let l = pricesOf (now (c .before .before .before .before .before .before .args .table)) in
+    ap (orElse (lastPrice l)) (sym (c .before .found .given .1) ∙ found (c .before .before .before))
+
+returns-2 : tie.Need-returns-2
+returns-2 c =
+    let l = pricesOf (now (c .before .before .before .before .before .before .args .table)) in
+    c .last-price .ensures ∙ ap (orElse (lastPrice l)) (sym (c .before .enum-told .given .1) ∙ found (c .before .before .before))
+
+pub lowest-spec : {M : Type 1} → statement M
+lowest-spec = tie.close (tie.spec product-requires at-least-requires enum-known-found enum-told last-price-requires returns returns-2)

@@ -1,0 +1,21 @@
+-- The percentage limit of a reference on the ladder.
+use mathlib.Core.Path.{ap, sym, _∙_}
+use borrow.Author.Needs.{needs}
+use Rattle.ladder.specs.declared.Found.the-variants.{Price}
+use Rattle.limits.proofs.percent.upper.Statement.{statement}
+use Rattle.limits.proofs.percent.upper.Tie as tie
+
+on-ladder-requires : tie.Need-on-ladder-requires
+on-ladder-requires c κs = search needs
+
+highest-requires : tie.Need-highest-requires
+highest-requires c κs = search needs
+
+returns : tie.Need-returns
+returns c = rw (sym (c .before .before .on-ladder .ensures) ∙ c .before .if1 .taken) (ap Price (c .highest .ensures))
+
+returns-2 : tie.Need-returns-2
+returns-2 c = rw (sym (c .before .on-ladder .ensures) ∙ c .if1 .left)
+
+pub upper-spec : {M : Type 1} → statement M
+upper-spec = tie.close (tie.spec on-ladder-requires highest-requires returns returns-2)

@@ -1,0 +1,57 @@
+// The percentage limits of a reference by themselves, before spreads are looked at.
+use ladder::Found;
+use ladder::places;
+use ladder::rounding;
+use ladder::table;
+ghost use mathlib.Core.Path.{_≡_};
+ghost use lib.Dec.{T};
+ghost use Rattle.ladder.specs.Layout.{isTable, pricesOf};
+ghost use Rattle.limits.specs.Limits.{percentLower, percentUpper, percentLowerOf, percentUpperOf};
+
+// The smallest ladder price q with scale * q at least factor * reference, or the last price where there is none.
+pub(crate) fn lowest(table: &[u32], scale: u32, factor: u32, reference: u32) -> u32
+    requires { ⌜ T (isTable (now table)) ⌝ }
+    ensures { λ r. ⌜ r ≡ percentLower (pricesOf (now (table .entry))) scale factor reference ⌝ }
+{
+    let found = rounding::at_least(table, scale, rounding::product(factor, reference));
+    match found {
+        Found::Price(price) => price,
+        Found::Nothing => table::last_price(table),
+    }
+}
+
+// The largest ladder price q with scale * q at most factor * reference, or the first price where there is none.
+pub(crate) fn highest(table: &[u32], scale: u32, factor: u32, reference: u32) -> u32
+    requires { ⌜ T (isTable (now table)) ⌝ }
+    ensures { λ r. ⌜ r ≡ percentUpper (pricesOf (now (table .entry))) scale factor reference ⌝ }
+{
+    let found = rounding::at_most(table, scale, rounding::product(factor, reference));
+    match found {
+        Found::Price(price) => price,
+        Found::Nothing => table::first_price(table),
+    }
+}
+
+// The lower percentage limit; nothing from a reference off the ladder.
+pub fn lower(table: &[u32], scale: u32, factor: u32, reference: u32) -> Found
+    requires { ⌜ T (isTable (now table)) ⌝ }
+    ensures { λ r. ⌜ r ≡ percentLowerOf (pricesOf (now (table .entry))) scale factor reference ⌝ }
+{
+    if places::on_ladder(table, reference) {
+        Found::Price(lowest(table, scale, factor, reference))
+    } else {
+        Found::Nothing
+    }
+}
+
+// The upper percentage limit; nothing from a reference off the ladder.
+pub fn upper(table: &[u32], scale: u32, factor: u32, reference: u32) -> Found
+    requires { ⌜ T (isTable (now table)) ⌝ }
+    ensures { λ r. ⌜ r ≡ percentUpperOf (pricesOf (now (table .entry))) scale factor reference ⌝ }
+{
+    if places::on_ladder(table, reference) {
+        Found::Price(highest(table, scale, factor, reference))
+    } else {
+        Found::Nothing
+    }
+}
