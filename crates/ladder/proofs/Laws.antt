@@ -14,7 +14,7 @@ use Rattle.ladder.specs.Ladder.{rungs, held, ladder, isLadderPrice}
 use Rattle.ladder.specs.Search.{holds, first, latestAfter}
 use Rattle.ladder.specs.Places.{priceAt, placeOf}
 use Rattle.ladder.specs.Spreads.{spreadUp, spreadDown, times, ifHeld}
-use Rattle.ladder.specs.Laws.{Phase1, TheLadder, PlacesAreInverse, SmallestAbove, LargestBelow, SpreadUpIsNext, SpreadDownIsPrevious, NThenM, UpThenDown, SpreadsKeepOrder, RoundingKeepsOrder}
+use Rattle.ladder.specs.Laws.{ThePhase1Table, TheLadder, PlacesAreInverse, SmallestAbove, LargestBelow, SpreadUpIsNext, SpreadDownIsPrevious, NThenM, UpThenDown, SpreadsKeepOrder, RoundingKeepsOrder}
 use Rattle.ladder.proofs.Lists.Truth.{passed, true-of}
 use Rattle.ladder.proofs.Lists.Entries.{at-place, past, held-entry, place-of-entry, place-off, entry-of-place}
 use Rattle.ladder.proofs.Lists.Moves.{times-add}
@@ -24,9 +24,9 @@ use Rattle.ladder.proofs.Tables.Members.{the-members}
 use Rattle.ladder.proofs.Lists.Order.{up-by, down-by, up-on, down-on, times-on, spreads-up-order, spreads-down-order, at-least-order, at-most-order}
 
 -- tested once, by computation
-pub phase1-is : Phase1
+pub the-phase1-table : ThePhase1Table
 unfolding phase1 wellFormed chained ladder held rungs priceAt
-phase1-is = record { well-formed = tt; prices = refl; first-place = refl; last-place = refl; no-more = refl }
+the-phase1-table = record { well-formed = tt; prices = refl; first-place = refl; last-place = refl; no-more = refl }
 
 pub the-ladder : TheLadder
 the-ladder = the-members

@@ -6,35 +6,34 @@ use mathlib.Core.Bool.{cond}
 use mathlib.Core.List.{List, [], _∷_}
 use lib.Dec.{leb, ltb}
 use lib.ListN.{length, getD}
-use Rattle.ladder.specs.declared.Band.{Band}
 use Rattle.ladder.specs.declared.Found.the-variants.{Price}
 use Rattle.ladder.specs.declared.search.Standing.{Standing}
 use Rattle.ladder.specs.declared.search.Standing.the-variants.{In, OffLadder}
 use Rattle.ladder.specs.declared.turns.Turn.{Turn}
 use Rattle.ladder.specs.declared.turns.Turn.the-variants.{Ends, Leaves}
 use Rattle.ladder.specs.declared.rounding.Gap.{Gap}
-use Rattle.ladder.specs.Bands.{noBand}
+use Rattle.ladder.specs.Bands.{Table, noBand}
 use Rattle.ladder.specs.Ladder.{width, ladder}
 use Rattle.ladder.specs.Search.{holds, first, latest, atLeast, atMost}
 
 -- how many bands end below y: those whose top, times scale, is less than y. Where y lands on the table, this is the index of its band
-unfoldable pub bandsBelow : ℕ → ℕ → List Band → ℕ
+unfoldable pub bandsBelow : ℕ → ℕ → Table → ℕ
 bandsBelow scale y [] = 0
 bandsBelow scale y (b ∷ bs) = let rest = suc (bandsBelow scale y bs) in cond (ltb (scale * b .top) y) rest 0
 
 -- the band of a ladder price
-abbrev pub standingOf : ℕ → List Band → Standing
+abbrev pub standingOf : ℕ → Table → Standing
 standingOf p t = cond (holds p (ladder t)) (In (bandsBelow 1 p t)) OffLadder
 
 -- p stands in band k of a table, or on its bottom
-pub record StandsIn (t : List Band) (k p : ℕ) : Type 0 where
+pub record StandsIn (t : Table) (k p : ℕ) : Type 0 where
   pub index : k < length t
   pub low : getD t k noBand .bottom ≤ p
   pub high : p ≤ getD t k noBand .top
   pub multiple : (p - getD t k noBand .bottom) % getD t k noBand .spread ≡ 0
 
 -- how many places lie below the bottom of band k: the spreads of the bands before it
-unfoldable pub placesBelow : ℕ → List Band → ℕ
+unfoldable pub placesBelow : ℕ → Table → ℕ
 placesBelow zero t = 0
 placesBelow (suc k) [] = 0
 placesBelow (suc k) (b ∷ bs) = width b + placesBelow k bs

@@ -9,12 +9,16 @@ use Rattle.ladder.specs.declared.Band.{Band}
 abbrev pub band : ℕ → ℕ → ℕ → Band
 band bottom top spread = record { bottom = bottom; top = top; spread = spread }
 
+-- a table is a list of bands
+abbrev pub Table : Type 0
+Table = List Band
+
 -- what stands past the end of a table
 abbrev pub noBand : Band
 noBand = band 0 0 0
 
 -- document 01's "Phase 1 spread table, in mils"
-unfoldable pub phase1 : List Band
+unfoldable pub phase1 : Table
 phase1 =
     band 10 250 1 ∷
     band 250 500 5 ∷
@@ -35,11 +39,11 @@ abbrev pub whole : Band → Bool
 whole b = ltb (b .bottom) (b .top) && ltb 0 (b .spread) && eqb ((b .top - b .bottom) % b .spread) 0
 
 -- the first band starts at a, each other one where the band before it ends, and each is whole
-unfoldable pub chained : ℕ → List Band → Bool
+unfoldable pub chained : ℕ → Table → Bool
 chained a [] = true
 chained a (b ∷ bs) = eqb (b .bottom) a && whole b && chained (b .top) bs
 
 -- a well-formed table has a band, starts above 0, and is chained
-unfoldable pub wellFormed : List Band → Bool
+unfoldable pub wellFormed : Table → Bool
 wellFormed [] = false
 wellFormed (b ∷ bs) = ltb 0 (b .bottom) && chained (b .bottom) (b ∷ bs)

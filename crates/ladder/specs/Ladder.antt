@@ -4,6 +4,7 @@ use mathlib.Core.Bool.{Bool, false, _&&_, _||_}
 use mathlib.Core.List.{List, [], _∷_, _++_}
 use lib.Dec.{eqb, ltb, leb}
 use Rattle.ladder.specs.declared.Band.{Band}
+use Rattle.ladder.specs.Bands.{Table}
 
 -- how many spreads wide a band is
 abbrev pub width : Band → ℕ
@@ -15,12 +16,12 @@ rungs s a zero = []
 rungs s a (suc n) = (a + s) ∷ rungs s (a + s) n
 
 -- the prices that the bands hold, band by band
-unfoldable pub held : List Band → List ℕ
+unfoldable pub held : Table → List ℕ
 held [] = []
 held (b ∷ bs) = rungs (b .spread) (b .bottom) (width b) ++ held bs
 
 -- the ladder: the first bottom, and every price that a band holds
-unfoldable pub ladder : List Band → List ℕ
+unfoldable pub ladder : Table → List ℕ
 ladder [] = []
 ladder (b ∷ bs) = b .bottom ∷ held (b ∷ bs)
 
@@ -28,12 +29,12 @@ ladder (b ∷ bs) = b .bottom ∷ held (b ∷ bs)
 abbrev pub inBand : ℕ → Band → Bool
 inBand p b = ltb (b .bottom) p && leb p (b .top) && eqb ((p - b .bottom) % b .spread) 0
 
-unfoldable pub inSomeBand : ℕ → List Band → Bool
+unfoldable pub inSomeBand : ℕ → Table → Bool
 inSomeBand p [] = false
 inSomeBand p (b ∷ bs) = inBand p b || inSomeBand p bs
 
 -- "A ladder price is 10, or a price in a band that exceeds the band's bottom by a multiple of its spread": 10 is the first bottom.
 -- The law TheLadder says that the ladder holds exactly these.
-unfoldable pub isLadderPrice : ℕ → List Band → Bool
+unfoldable pub isLadderPrice : ℕ → Table → Bool
 isLadderPrice p [] = false
 isLadderPrice p (b ∷ bs) = eqb p (b .bottom) || inSomeBand p (b ∷ bs)

@@ -2,12 +2,11 @@
 use Prim.Native.Nat.{ℕ}
 use mathlib.Core.Bool.{Bool}
 use mathlib.Core.List.{List, [], _∷_}
-use Rattle.ladder.specs.declared.Band.{Band}
-use Rattle.ladder.specs.Bands.{band, wellFormed}
+use Rattle.ladder.specs.Bands.{Table, band, wellFormed}
 use Rattle.ladder.specs.Ladder.{ladder}
 
 -- the bands that the numbers stand for; one or two numbers left over stand for none
-unfoldable pub bandsOf : List ℕ → List Band
+unfoldable pub bandsOf : List ℕ → Table
 bandsOf [] = []
 bandsOf (a ∷ []) = []
 bandsOf (a ∷ b ∷ []) = []

@@ -9,7 +9,7 @@ use Rattle.ladder.specs.Bands.{phase1}
 use Rattle.ladder.specs.Ladder.{ladder, isLadderPrice}
 use Rattle.ladder.specs.Spreads.{ifHeld}
 use Rattle.ladder.proofs.Answers.{answered}
-use Rattle.ladder.proofs.Laws.{phase1-is, the-ladder, spreads-keep-order, rounding-keeps-order}
+use Rattle.ladder.proofs.Laws.{the-phase1-table, the-ladder, spreads-keep-order, rounding-keeps-order}
 use Rattle.limits.specs.Laws.{LimitsAreOrdered, HigherReference}
 
 pub limits-are-ordered : LimitsAreOrdered
@@ -20,13 +20,13 @@ limits-are-ordered t wf scale factor p q h k m =
 
 -- a reference that a limit is answered for is a ladder price
 on-ladder : (p answer q : ℕ) → ifHeld p (ladder phase1) answer ≡ Price q → T (isLadderPrice p phase1)
-on-ladder p answer q e = rw (← (the-ladder phase1 (phase1-is .well-formed) p), answered p (ladder phase1) answer q e .on) tt
+on-ladder p answer q e = rw (← (the-ladder phase1 (the-phase1-table .well-formed) p), answered p (ladder phase1) answer q e .on) tt
 
 pub higher-reference : HigherReference
 higher-reference p q m =
     record {
-      lower = λ a b e f. less a b _ _ e f (λ h k. limits-are-ordered phase1 (phase1-is .well-formed) 100 95 p q h k m .lower);
-      upper = λ a b e f. less a b _ _ e f (λ h k. limits-are-ordered phase1 (phase1-is .well-formed) 100 105 p q h k m .upper);
+      lower = λ a b e f. less a b _ _ e f (λ h k. limits-are-ordered phase1 (the-phase1-table .well-formed) 100 95 p q h k m .lower);
+      upper = λ a b e f. less a b _ _ e f (λ h k. limits-are-ordered phase1 (the-phase1-table .well-formed) 100 105 p q h k m .upper);
     }
   where
     less : (a b x y : ℕ) → ifHeld p (ladder phase1) x ≡ Price a → ifHeld q (ladder phase1) y ≡ Price b →

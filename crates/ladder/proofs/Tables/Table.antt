@@ -23,13 +23,13 @@ abbrev pub start : List Band → ℕ
 start t = bandAt t 0 .bottom
 
 -- what a well-formed table is, as facts
-pub record Table (t : List Band) : Type 0 where
+pub record Facts (t : List Band) : Type 0 where
   pub chain : Chain (start t) t
   pub some : 0 < length t
   pub positive : 0 < start t
   pub list : ladder t ≡ start t ∷ held t
 
-pub table-facts : (t : List Band) → T (wellFormed t) → Table t
+pub table-facts : (t : List Band) → T (wellFormed t) → Facts t
 unfolding wellFormed ladder
 table-facts [] w = absurd w
 table-facts (b ∷ bs) w =

@@ -21,14 +21,16 @@ enum-told c = search needs
 returns : tie.Need-returns
 returns c =
     let s = c .before .before .before .before in
+    let t = bandsOf (now (s .args .table)) in
     let off : c .before .before .standing-of .result ≡ OffLadder = cc in
-    sym (failed _ (standing-off (bandsOf (now (s .args .table))) (s .pre) (s .args .price) (sym (c .before .before .standing-of .ensures) ∙ off)))
+    sym (failed _ (standing-off t (s .pre) (s .args .price) (sym (c .before .before .standing-of .ensures) ∙ off)))
 
 returns-2 : tie.Need-returns-2
 returns-2 c =
     let s = c .before .before .before .before .before in
+    let t = bandsOf (now (s .args .table)) in
     let band = c .before .standing .given in
-    sym (passed _ (standing-held (bandsOf (now (s .args .table))) (s .pre) (s .args .price) (band .0 .0) (sym (c .before .before .before .standing-of .ensures) ∙ band .1)))
+    sym (passed _ (standing-held t (s .pre) (s .args .price) (band .0 .0) (sym (c .before .before .before .standing-of .ensures) ∙ band .1)))
 
 pub on-ladder-spec : {M : Type 1} → statement M
 on-ladder-spec = tie.close (tie.spec standing-of-requires enum-known-standing enum-told returns returns-2)

@@ -25,8 +25,9 @@ enum-told c = search needs
 returns : tie.Need-returns
 returns c =
     let s = c .before .before .before .before in
+    let t = bandsOf (now (s .args .table)) in
     let off : c .before .before .standing-of .result ≡ OffLadder = cc in
-    sym (place-off _ 0 (s .args .price) (standing-off (bandsOf (now (s .args .table))) (s .pre) (s .args .price) (sym (c .before .before .standing-of .ensures) ∙ off)))
+    sym (place-off _ 0 (s .args .price) (standing-off t (s .pre) (s .args .price) (sym (c .before .before .standing-of .ensures) ∙ off)))
 
 -- the price is in the band found
 stood : (c : tie.After-known-told) →
@@ -34,8 +35,9 @@ stood : (c : tie.After-known-told) →
     StandsIn (bandsOf (now (s .args .table))) (c .before .standing .given .0 .0) (s .args .price)
 stood c =
     let s = c .before .before .before .before .before in
+    let t = bandsOf (now (s .args .table)) in
     let band = c .before .standing .given in
-    standing-stands (bandsOf (now (s .args .table))) (s .pre) (s .args .price) (band .0 .0) (sym (c .before .before .before .standing-of .ensures) ∙ band .1)
+    standing-stands t (s .pre) (s .args .price) (band .0 .0) (sym (c .before .before .before .standing-of .ensures) ∙ band .1)
 
 band-at-requires : tie.Need-band-at-requires
 band-at-requires c κs = stood c .index
@@ -49,26 +51,29 @@ sub-t7 c = rw (c .before .before .band-at .ensures) (stood (c .before .before .b
 div-t8 : tie.Need-div-t8
 div-t8 c =
     let s = c .before .before .before .before .before .before .before .before .before in
+    let t = bandsOf (now (s .args .table)) in
     let k = c .before .before .before .before .before .standing .given .0 .0 in
     let on = stood (c .before .before .before .before) in
     let b = c .before .before .before .band-at in
-    band-facts (bandsOf (now (s .args .table))) (s .pre) k (on .index) (b .result) (b .ensures) .spreads
+    band-facts t (s .pre) k (on .index) (b .result) (b .ensures) .spreads
 
 add-t9 : tie.Need-add-t9
 add-t9 c =
     let s = c .before .before .before .before .before .before .before .before .before in
+    let t = bandsOf (now (s .args .table)) in
     let k = c .before .before .before .before .before .standing .given .0 .0 in
     let on = stood (c .before .before .before .before) in
     let b = c .before .before .before .band-at in
-    omega (arith, c .before .before .places-below .ensures, place-fits (bandsOf (now (s .args .table))) (s .pre) k (on .index) (b .result) (b .ensures) (s .args .price) on)
+    omega (arith, c .before .before .places-below .ensures, place-fits t (s .pre) k (on .index) (b .result) (b .ensures) (s .args .price) on)
 
 returns-2 : tie.Need-returns-2
 returns-2 c =
     let s = c .before .before .before .before .before .before .before .before .before in
+    let t = bandsOf (now (s .args .table)) in
     let k = c .before .before .before .before .before .standing .given .0 .0 in
     let on = stood (c .before .before .before .before) in
     let b = c .before .before .before .band-at in
-    rw (c .before .before .places-below .ensures) (place-here (bandsOf (now (s .args .table))) (s .pre) k (on .index) (b .result) (b .ensures) (s .args .price) on)
+    rw (c .before .before .places-below .ensures) (place-here t (s .pre) k (on .index) (b .result) (b .ensures) (s .args .price) on)
 
 pub place-of-spec : {M : Type 1} → statement M
 place-of-spec = tie.close (tie.spec standing-of-requires enum-known-standing enum-told returns band-at-requires places-below-requires sub-t7 div-t8 add-t9 returns-2)

@@ -28,15 +28,17 @@ band-at-requires c κs = search needs
 spreads-of-requires : tie.Need-spreads-of-requires Inv-loop μ-loop
 spreads-of-requires c κs =
     let s = c .before .before .before .before in
+    let t = bandsOf (now (s .args .table)) in
     let b = c .band-at in
-    let w = band-facts (bandsOf (now (s .args .table))) (s .pre .0) (c .before .before .loop .k) (omega arith) (b .result) (b .ensures) in
+    let w = band-facts t (s .pre .0) (c .before .before .loop .k) (omega arith) (b .result) (b .ensures) in
     (omega arith, w .spreads)
 
 add-places : tie.Need-add-places Inv-loop μ-loop
 add-places c =
     let s = c .before .before .before .before .before in
+    let t = bandsOf (now (s .args .table)) in
     let b = c .before .band-at in
-    omega (arith, places-fit (bandsOf (now (s .args .table))) (s .pre .0) (c .before .before .before .loop .k) (omega arith) (b .result) (b .ensures), c .spreads-of .ensures)
+    omega (arith, places-fit t (s .pre .0) (c .before .before .before .loop .k) (omega arith) (b .result) (b .ensures), c .spreads-of .ensures)
 
 add-k : tie.Need-add-k Inv-loop μ-loop
 add-k c = search needs
@@ -47,8 +49,9 @@ loop-less c = search needs
 loop-again : tie.Need-loop-again Inv-loop μ-loop
 loop-again c =
     let s = c .before .before .before .before .before in
+    let t = bandsOf (now (s .args .table)) in
     let b = c .before .band-at in
-    (omega arith, omega (arith, places-more (bandsOf (now (s .args .table))) (s .pre .0) (c .before .before .before .loop .k) (omega arith) (b .result) (b .ensures), c .spreads-of .ensures))
+    (omega arith, omega (arith, places-more t (s .pre .0) (c .before .before .before .loop .k) (omega arith) (b .result) (b .ensures), c .spreads-of .ensures))
 
 returns : tie.Need-returns Inv-loop μ-loop
 returns c =

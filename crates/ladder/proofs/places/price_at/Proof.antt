@@ -28,13 +28,15 @@ count-requires c κs = search needs
 sub-last : tie.Need-sub-last Inv-loop μ-loop
 sub-last c =
     let s = c .before .before in
-    omega (arith, table-facts (bandsOf (now (s .args .table))) (s .pre) .some)
+    let t = bandsOf (now (s .args .table)) in
+    omega (arith, table-facts t (s .pre) .some)
 
 loop-holds : tie.Need-loop-holds Inv-loop μ-loop
 unfolding placesBelow
 loop-holds c =
     let s = c .before .before in
-    (table-facts (bandsOf (now (s .args .table))) (s .pre) .some, omega arith)
+    let t = bandsOf (now (s .args .table)) in
+    (table-facts t (s .pre) .some, omega arith)
 
 band-at-requires : tie.Need-band-at-requires Inv-loop μ-loop
 band-at-requires c κs = search needs
@@ -42,16 +44,18 @@ band-at-requires c κs = search needs
 sub-turn-in : tie.Need-sub-turn-in Inv-loop μ-loop
 sub-turn-in c =
     let s = c .before .before .before .before .before in
+    let t = bandsOf (now (s .args .table)) in
     let l = c .before .before .loop in
     let b = c .before .band-at in
-    le-of-lt (band-facts (bandsOf (now (s .args .table))) (s .pre) (l .k) (l .inv .0) (b .result) (b .ensures) .rises)
+    le-of-lt (band-facts t (s .pre) (l .k) (l .inv .0) (b .result) (b .ensures) .rises)
 
 turn-in-requires : tie.Need-turn-in-requires Inv-loop μ-loop
 turn-in-requires c κs =
     let s = c .before .before .before .before .before in
+    let t = bandsOf (now (s .args .table)) in
     let l = c .before .before .loop in
     let b = c .before .band-at in
-    band-facts (bandsOf (now (s .args .table))) (s .pre) (l .k) (l .inv .0) (b .result) (b .ensures) .spreads
+    band-facts t (s .pre) (l .k) (l .inv .0) (b .result) (b .ensures) .spreads
 
 enum-known-turn : tie.Need-enum-known-turn Inv-loop μ-loop
 enum-known-turn c = search needs
@@ -66,16 +70,18 @@ ends c = turn-ends _ _ _ _ (sym (c .before .before .before .before .turn-in .ens
 add-t12 : tie.Need-add-t12 Inv-loop μ-loop
 add-t12 c =
     let s = c .before .before .before .before .before .before .before .before .before .before in
+    let t = bandsOf (now (s .args .table)) in
     let l = c .before .before .before .before .before .before .before .loop in
     let b = c .before .before .before .before .before .before .band-at in
-    omega (arith, ends c .0, ends c .1, band-facts (bandsOf (now (s .args .table))) (s .pre) (l .k) (l .inv .0) (b .result) (b .ensures) .rises)
+    omega (arith, ends c .0, ends c .1, band-facts t (s .pre) (l .k) (l .inv .0) (b .result) (b .ensures) .rises)
 
 returns : tie.Need-returns Inv-loop μ-loop
 returns c =
     let s = c .before .before .before .before .before .before .before .before .before .before in
+    let t = bandsOf (now (s .args .table)) in
     let l = c .before .before .before .before .before .before .before .loop in
     let b = c .before .before .before .before .before .before .band-at in
-    rw (ends c .0, ← (l .inv .1)) (price-here (bandsOf (now (s .args .table))) (s .pre) (l .k) (l .inv .0) (b .result) (b .ensures) (l .left) (ends c .1))
+    rw (ends c .0, ← (l .inv .1)) (price-here t (s .pre) (l .k) (l .inv .0) (b .result) (b .ensures) (l .left) (ends c .1))
 
 enum-known-turn-2 : tie.Need-enum-known-turn-2 Inv-loop μ-loop
 enum-known-turn-2 c = search needs
@@ -90,9 +96,10 @@ leaves c = turn-leaves _ _ _ _ (sym (c .before .before .before .turn-in .ensures
 returns-2 : tie.Need-returns-2 Inv-loop μ-loop
 returns-2 c =
     let s = c .before .before .before .before .before .before .before .before .before .before in
+    let t = bandsOf (now (s .args .table)) in
     let l = c .before .before .before .before .before .before .before .loop in
     let b = c .before .before .before .before .before .before .band-at in
-    rw (← (l .inv .1)) (price-past (bandsOf (now (s .args .table))) (s .pre) (l .k) (l .inv .0) (b .result) (b .ensures) (omega arith) (l .left) (leaves (c .before) .1))
+    rw (← (l .inv .1)) (price-past t (s .pre) (l .k) (l .inv .0) (b .result) (b .ensures) (omega arith) (l .left) (leaves (c .before) .1))
 
 add-k : tie.Need-add-k Inv-loop μ-loop
 add-k c = search needs
@@ -103,10 +110,11 @@ loop-less c = search needs
 loop-again : tie.Need-loop-again Inv-loop μ-loop
 loop-again c =
     let s = c .before .before .before .before .before .before .before .before .before .before in
+    let t = bandsOf (now (s .args .table)) in
     let l = c .before .before .before .before .before .before .before .loop in
     let b = c .before .before .before .before .before .before .band-at in
-    let past = places-past (bandsOf (now (s .args .table))) (s .pre) (l .k) (l .inv .0) (b .result) (b .ensures) (l .left) (leaves (c .before) .1) in
-    (omega arith, omega (arith, leaves (c .before) .0, places-more (bandsOf (now (s .args .table))) (s .pre) (l .k) (l .inv .0) (b .result) (b .ensures)))
+    let past = places-past t (s .pre) (l .k) (l .inv .0) (b .result) (b .ensures) (l .left) (leaves (c .before) .1) in
+    (omega arith, omega (arith, leaves (c .before) .0, places-more t (s .pre) (l .k) (l .inv .0) (b .result) (b .ensures)))
 
 pub price-at-spec : {M : Type 1} → statement M
 price-at-spec = tie.close (tie.spec Inv-loop μ-loop count-requires sub-last loop-holds band-at-requires sub-turn-in turn-in-requires enum-known-turn add-t12 returns enum-known-turn-2 returns-2 add-k loop-less loop-again)

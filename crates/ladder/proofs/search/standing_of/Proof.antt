@@ -17,8 +17,9 @@ count-requires c κs = search needs
 returns : tie.Need-returns
 returns c =
     let s = c .before .before .before .before in
+    let t = bandsOf (now (s .args .table)) in
     let k = c .before .before .bands-below in
-    off-above (bandsOf (now (s .args .table))) (s .pre) (s .args .price) (k .result) (k .ensures) (omega arith)
+    off-above t (s .pre) (s .args .price) (k .result) (k .ensures) (omega arith)
 
 band-at-requires : tie.Need-band-at-requires
 band-at-requires c κs = search needs
@@ -26,29 +27,33 @@ band-at-requires c κs = search needs
 returns-2 : tie.Need-returns-2
 returns-2 c =
     let s = c .before .before .before .before .before .before in
+    let t = bandsOf (now (s .args .table)) in
     let k = c .before .before .before .before .bands-below in
     let b = c .before .band-at in
-    off-below (bandsOf (now (s .args .table))) (s .pre) (s .args .price) (k .result) (k .ensures) (b .result) (b .ensures) (omega arith)
+    off-below t (s .pre) (s .args .price) (k .result) (k .ensures) (b .result) (b .ensures) (omega arith)
 
 rem-if3 : tie.Need-rem-if3
 rem-if3 c =
     let s = c .before .before .before .before .before .before .before in
+    let t = bandsOf (now (s .args .table)) in
     let b = c .before .before .band-at in
-    band-facts (bandsOf (now (s .args .table))) (s .pre) (c .before .before .before .before .before .bands-below .result) (omega arith) (b .result) (b .ensures) .spreads
+    band-facts t (s .pre) (c .before .before .before .before .before .bands-below .result) (omega arith) (b .result) (b .ensures) .spreads
 
 returns-3 : tie.Need-returns-3
 returns-3 c =
     let s = c .before .before .before .before .before .before .before .before in
+    let t = bandsOf (now (s .args .table)) in
     let k = c .before .before .before .before .before .before .bands-below in
     let b = c .before .before .before .band-at in
-    on-band (bandsOf (now (s .args .table))) (s .pre) (s .args .price) (k .result) (k .ensures) (b .result) (b .ensures) (omega arith) (omega arith) (c .if3 .taken)
+    on-band t (s .pre) (s .args .price) (k .result) (k .ensures) (b .result) (b .ensures) (omega arith) (omega arith) (c .if3 .taken)
 
 returns-4 : tie.Need-returns-4
 returns-4 c =
     let s = c .before .before .before .before .before .before .before .before in
+    let t = bandsOf (now (s .args .table)) in
     let k = c .before .before .before .before .before .before .bands-below in
     let b = c .before .before .before .band-at in
-    off-between (bandsOf (now (s .args .table))) (s .pre) (s .args .price) (k .result) (k .ensures) (b .result) (b .ensures) (omega arith) (omega arith) (c .if3 .left)
+    off-between t (s .pre) (s .args .price) (k .result) (k .ensures) (b .result) (b .ensures) (omega arith) (omega arith) (c .if3 .left)
 
 pub standing-of-spec : {M : Type 1} → statement M
 standing-of-spec = tie.close (tie.spec bands-below-requires count-requires returns band-at-requires returns-2 rem-if3 returns-3 returns-4)

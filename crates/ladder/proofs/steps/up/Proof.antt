@@ -22,8 +22,9 @@ enum-told c = search needs
 returns : tie.Need-returns
 returns c =
     let s = c .before .before .before .before in
+    let t = bandsOf (now (s .args .table)) in
     let off : c .before .before .standing-of .result ≡ OffLadder = cc in
-    no-answer (bandsOf (now (s .args .table))) (s .pre) (s .args .price) (sym (c .before .before .standing-of .ensures) ∙ off) _
+    no-answer t (s .pre) (s .args .price) (sym (c .before .before .standing-of .ensures) ∙ off) _
 
 -- the price is in the band found
 stood : (c : tie.After-known-told) →
@@ -34,12 +35,14 @@ stood c = sym (c .before .before .before .standing-of .ensures) ∙ c .before .s
 walk-up-requires : tie.Need-walk-up-requires
 walk-up-requires c κs =
     let s = c .before .before .before .before .before in
-    (s .pre, standing-stands (bandsOf (now (s .args .table))) (s .pre) (s .args .price) (c .before .standing .given .0 .0) (stood c))
+    let t = bandsOf (now (s .args .table)) in
+    (s .pre, standing-stands t (s .pre) (s .args .price) (c .before .standing .given .0 .0) (stood c))
 
 returns-2 : tie.Need-returns-2
 returns-2 c =
     let s = c .before .before .before .before .before .before in
-    ap Price (c .walk-up .ensures) ∙ answers (bandsOf (now (s .args .table))) (s .pre) (s .args .price) (c .before .before .standing .given .0 .0) (stood (c .before)) _
+    let t = bandsOf (now (s .args .table)) in
+    ap Price (c .walk-up .ensures) ∙ answers t (s .pre) (s .args .price) (c .before .before .standing .given .0 .0) (stood (c .before)) _
 
 pub up-spec : {M : Type 1} → statement M
 up-spec = tie.close (tie.spec standing-of-requires enum-known-standing enum-told returns walk-up-requires returns-2)

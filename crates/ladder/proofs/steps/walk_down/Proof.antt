@@ -31,17 +31,19 @@ band-at-requires c κs = search needs
 sub-turn-in : tie.Need-sub-turn-in Inv-loop μ-loop
 sub-turn-in c =
     let s = c .before .before .before .before in
+    let t = bandsOf (now (s .args .table)) in
     let l = c .before .before .loop in
     let b = c .before .band-at in
     let end = ap (λ (x : Band). x .bottom) (b .ensures) in
-    omega (arith, end, l .inv .0 .low, band-facts (bandsOf (now (s .args .table))) (s .pre .0) (l .k) (l .inv .0 .index) (b .result) (b .ensures))
+    omega (arith, end, l .inv .0 .low, band-facts t (s .pre .0) (l .k) (l .inv .0 .index) (b .result) (b .ensures))
 
 turn-in-requires : tie.Need-turn-in-requires Inv-loop μ-loop
 turn-in-requires c κs =
     let s = c .before .before .before .before in
+    let t = bandsOf (now (s .args .table)) in
     let l = c .before .before .loop in
     let b = c .before .band-at in
-    band-facts (bandsOf (now (s .args .table))) (s .pre .0) (l .k) (l .inv .0 .index) (b .result) (b .ensures) .spreads
+    band-facts t (s .pre .0) (l .k) (l .inv .0 .index) (b .result) (b .ensures) .spreads
 
 enum-known-turn : tie.Need-enum-known-turn Inv-loop μ-loop
 enum-known-turn c = search needs
@@ -55,9 +57,10 @@ ends : (c : tie.After-known-told Inv-loop μ-loop) →
     (mils + b .bottom ≤ l .at) × (times (l .left) (spreadDown (pricesOf (now (s .args .table)))) (l .at) ≡ l .at - mils)
 ends c =
     let s = c .before .before .before .before .before .before .before .before in
+    let t = bandsOf (now (s .args .table)) in
     let l = c .before .before .before .before .before .before .loop in
     let b = c .before .before .before .before .before .band-at in
-    down-ends (bandsOf (now (s .args .table))) (s .pre .0) (l .k) (l .at) (l .inv .0) (b .result) (b .ensures) (l .left) (c .before .turn .given .0 .0)
+    down-ends t (s .pre .0) (l .k) (l .at) (l .inv .0) (b .result) (b .ensures) (l .left) (c .before .turn .given .0 .0)
     (sym (c .before .before .before .turn-in .ensures) ∙ c .before .turn .given .1)
 
 sub-result : tie.Need-sub-result Inv-loop μ-loop
@@ -76,18 +79,20 @@ leaves : (c : tie.After-known-told2 Inv-loop μ-loop) →
     times (s .args .n) (spreadDown (pricesOf (now (s .args .table)))) (s .args .price)
 leaves c =
     let s = c .before .before .before .before .before .before .before .before in
+    let t = bandsOf (now (s .args .table)) in
     let l = c .before .before .before .before .before .before .loop in
     let b = c .before .before .before .before .before .band-at in
     sym
-    (down-leaves (bandsOf (now (s .args .table))) (s .pre .0) (l .k) (l .at) (l .inv .0) (b .result) (b .ensures) (l .left) (c .before .turn2 .given .0 .0)
+    (down-leaves t (s .pre .0) (l .k) (l .at) (l .inv .0) (b .result) (b .ensures) (l .left) (c .before .turn2 .given .0 .0)
     (sym (c .before .before .before .turn-in .ensures) ∙ c .before .turn2 .given .1)) ∙
     l .inv .1
 
 returns-2 : tie.Need-returns-2 Inv-loop μ-loop
 returns-2 c =
     let s = c .before .before .before .before .before .before .before .before .before in
+    let t = bandsOf (now (s .args .table)) in
     let b = c .before .before .before .before .before .before .band-at in
-    sym (down-halts (bandsOf (now (s .args .table))) (s .pre .0) (b .result) (rw (c .if1 .taken) at (b .ensures)) (c .before .before .turn2 .given .0 .0)) ∙ leaves (c .before)
+    sym (down-halts t (s .pre .0) (b .result) (rw (c .if1 .taken) at (b .ensures)) (c .before .before .turn2 .given .0 .0)) ∙ leaves (c .before)
 
 sub-k : tie.Need-sub-k Inv-loop μ-loop
 sub-k c = omega arith
@@ -98,9 +103,10 @@ loop-less c = omega arith
 loop-again : tie.Need-loop-again Inv-loop μ-loop
 loop-again c =
     let s = c .before .before .before .before .before .before .before .before .before in
+    let t = bandsOf (now (s .args .table)) in
     let l = c .before .before .before .before .before .before .before .loop in
     let b = c .before .before .before .before .before .before .band-at in
-    (into-previous (bandsOf (now (s .args .table))) (s .pre .0) (l .k) (l .inv .0 .index) (c .if1 .left) (b .result) (b .ensures), leaves (c .before))
+    (into-previous t (s .pre .0) (l .k) (l .inv .0 .index) (c .if1 .left) (b .result) (b .ensures), leaves (c .before))
 
 pub walk-down-spec : {M : Type 1} → statement M
 walk-down-spec = tie.close (tie.spec Inv-loop μ-loop loop-holds band-at-requires sub-turn-in turn-in-requires enum-known-turn sub-result returns enum-known-turn-2 returns-2 sub-k loop-less loop-again)

@@ -29,7 +29,8 @@ count-requires c κs = search needs
 sub-last : tie.Need-sub-last Inv-loop μ-loop
 sub-last c =
     let s = c .before .before in
-    omega (arith, table-facts (bandsOf (now (s .args .table))) (s .pre .0) .some)
+    let t = bandsOf (now (s .args .table)) in
+    omega (arith, table-facts t (s .pre .0) .some)
 
 loop-holds : tie.Need-loop-holds Inv-loop μ-loop
 loop-holds c = search needs
@@ -40,17 +41,19 @@ band-at-requires c κs = search needs
 sub-turn-in : tie.Need-sub-turn-in Inv-loop μ-loop
 sub-turn-in c =
     let s = c .before .before .before .before .before in
+    let t = bandsOf (now (s .args .table)) in
     let l = c .before .before .loop in
     let b = c .before .band-at in
     let end = ap (λ (x : Band). x .top) (b .ensures) in
-    omega (arith, end, l .inv .0 .high, band-facts (bandsOf (now (s .args .table))) (s .pre .0) (l .k) (l .inv .0 .index) (b .result) (b .ensures))
+    omega (arith, end, l .inv .0 .high, band-facts t (s .pre .0) (l .k) (l .inv .0 .index) (b .result) (b .ensures))
 
 turn-in-requires : tie.Need-turn-in-requires Inv-loop μ-loop
 turn-in-requires c κs =
     let s = c .before .before .before .before .before in
+    let t = bandsOf (now (s .args .table)) in
     let l = c .before .before .loop in
     let b = c .before .band-at in
-    band-facts (bandsOf (now (s .args .table))) (s .pre .0) (l .k) (l .inv .0 .index) (b .result) (b .ensures) .spreads
+    band-facts t (s .pre .0) (l .k) (l .inv .0 .index) (b .result) (b .ensures) .spreads
 
 enum-known-turn : tie.Need-enum-known-turn Inv-loop μ-loop
 enum-known-turn c = search needs
@@ -64,9 +67,10 @@ ends : (c : tie.After-known-told Inv-loop μ-loop) →
     (l .at + mils ≤ b .top) × (times (l .left) (spreadUp (pricesOf (now (s .args .table)))) (l .at) ≡ l .at + mils)
 ends c =
     let s = c .before .before .before .before .before .before .before .before .before in
+    let t = bandsOf (now (s .args .table)) in
     let l = c .before .before .before .before .before .before .loop in
     let b = c .before .before .before .before .before .band-at in
-    up-ends (bandsOf (now (s .args .table))) (s .pre .0) (l .k) (l .at) (l .inv .0) (b .result) (b .ensures) (l .left) (c .before .turn .given .0 .0)
+    up-ends t (s .pre .0) (l .k) (l .at) (l .inv .0) (b .result) (b .ensures) (l .left) (c .before .turn .given .0 .0)
     (sym (c .before .before .before .turn-in .ensures) ∙ c .before .turn .given .1)
 
 add-result : tie.Need-add-result Inv-loop μ-loop
@@ -85,18 +89,20 @@ leaves : (c : tie.After-known-told2 Inv-loop μ-loop) →
     times (s .args .n) (spreadUp (pricesOf (now (s .args .table)))) (s .args .price)
 leaves c =
     let s = c .before .before .before .before .before .before .before .before .before in
+    let t = bandsOf (now (s .args .table)) in
     let l = c .before .before .before .before .before .before .loop in
     let b = c .before .before .before .before .before .band-at in
     sym
-    (up-leaves (bandsOf (now (s .args .table))) (s .pre .0) (l .k) (l .at) (l .inv .0) (b .result) (b .ensures) (l .left) (c .before .turn2 .given .0 .0)
+    (up-leaves t (s .pre .0) (l .k) (l .at) (l .inv .0) (b .result) (b .ensures) (l .left) (c .before .turn2 .given .0 .0)
     (sym (c .before .before .before .turn-in .ensures) ∙ c .before .turn2 .given .1)) ∙
     l .inv .1
 
 returns-2 : tie.Need-returns-2 Inv-loop μ-loop
 returns-2 c =
     let s = c .before .before .before .before .before .before .before .before .before .before in
+    let t = bandsOf (now (s .args .table)) in
     let b = c .before .before .before .before .before .before .band-at in
-    sym (up-halts (bandsOf (now (s .args .table))) (s .pre .0) (c .before .before .before .before .before .before .before .loop .k) (omega arith) (b .result) (b .ensures) (c .before .before .turn2 .given .0 .0)) ∙ leaves (c .before)
+    sym (up-halts t (s .pre .0) (c .before .before .before .before .before .before .before .loop .k) (omega arith) (b .result) (b .ensures) (c .before .before .turn2 .given .0 .0)) ∙ leaves (c .before)
 
 add-k : tie.Need-add-k Inv-loop μ-loop
 add-k c = omega arith
@@ -107,8 +113,9 @@ loop-less c = omega arith
 loop-again : tie.Need-loop-again Inv-loop μ-loop
 loop-again c =
     let s = c .before .before .before .before .before .before .before .before .before .before in
+    let t = bandsOf (now (s .args .table)) in
     let b = c .before .before .before .before .before .before .band-at in
-    (into-next (bandsOf (now (s .args .table))) (s .pre .0) (c .before .before .before .before .before .before .before .loop .k) (omega arith) (b .result) (b .ensures), leaves (c .before))
+    (into-next t (s .pre .0) (c .before .before .before .before .before .before .before .loop .k) (omega arith) (b .result) (b .ensures), leaves (c .before))
 
 pub walk-up-spec : {M : Type 1} → statement M
 walk-up-spec = tie.close (tie.spec Inv-loop μ-loop count-requires sub-last loop-holds band-at-requires sub-turn-in turn-in-requires enum-known-turn add-result returns enum-known-turn-2 returns-2 add-k loop-less loop-again)

@@ -12,7 +12,8 @@ band-at-requires c κs = table-facts (bandsOf (now (c .before .args .table))) (c
 returns : tie.Need-returns
 returns c =
     let s = c .before .before in
-    rw (c .band-at .ensures) (sym (first-is-start (bandsOf (now (s .args .table))) (s .pre)))
+    let t = bandsOf (now (s .args .table)) in
+    rw (c .band-at .ensures) (sym (first-is-start t (s .pre)))
 
 pub first-price-spec : {M : Type 1} → statement M
 first-price-spec = tie.close (tie.spec band-at-requires returns)

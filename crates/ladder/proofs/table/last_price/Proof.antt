@@ -15,17 +15,20 @@ count-requires c κs = search needs
 sub-last : tie.Need-sub-last
 sub-last c =
     let s = c .before .before in
-    omega (arith, table-facts (bandsOf (now (s .args .table))) (s .pre) .some)
+    let t = bandsOf (now (s .args .table)) in
+    omega (arith, table-facts t (s .pre) .some)
 
 band-at-requires : tie.Need-band-at-requires
 band-at-requires c κs =
     let s = c .before .before in
-    omega (arith, table-facts (bandsOf (now (s .args .table))) (s .pre) .some)
+    let t = bandsOf (now (s .args .table)) in
+    omega (arith, table-facts t (s .pre) .some)
 
 returns : tie.Need-returns
 returns c =
     let s = c .before .before .before in
-    rw (c .band-at .ensures) (sym (last-is-top (bandsOf (now (s .args .table))) (s .pre) (c .before .count .result - 1) (omega (arith, table-facts (bandsOf (now (s .args .table))) (s .pre) .some))))
+    let t = bandsOf (now (s .args .table)) in
+    rw (c .band-at .ensures) (sym (last-is-top t (s .pre) (c .before .count .result - 1) (omega (arith, table-facts t (s .pre) .some))))
 
 pub last-price-spec : {M : Type 1} → statement M
 last-price-spec = tie.close (tie.spec count-requires sub-last band-at-requires returns)
