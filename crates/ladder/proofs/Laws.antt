@@ -1,32 +1,35 @@
 -- The laws of specs/Laws.antt, proved.
 use mathlib.Core.Path.{_≡_, refl, ap, sym, _∙_}
-use Prim.Native.Nat.{ℕ, _+_, _≤_, _<_}
-use native.Mathlib.Nat.{zero-add}
+use Prim.Native.Nat.{ℕ, _+_, _-_, _*_, _≤_, _<_}
+use native.Mathlib.Nat.{zero-add, lt-of-not-le}
 use native.Mathlib.Omega.{arith}
 use mathlib.Core.Bool.{true}
 use mathlib.Core.List.{List}
-use lib.Dec.{T, ltb→lt, lt→ltb}
+use lib.Dec.{T, ltb→lt, lt→ltb, leb→le, le→leb}
+use lib.ListN.{length}
 use Rattle.ladder.specs.declared.Band.{Band}
 use Rattle.ladder.specs.declared.Found.the-variants.{Price}
 use Rattle.ladder.specs.declared.Place.the-variants.{At}
 use Rattle.ladder.specs.Bands.{phase1, chained, wellFormed}
-use Rattle.ladder.specs.Ladder.{rungs, held, ladder, isLadderPrice}
-use Rattle.ladder.specs.Search.{holds, first, latestAfter}
-use Rattle.ladder.specs.Places.{priceAt, placeOf}
+use Rattle.ladder.specs.Ladder.{rungs, bandPrices, ladder, isLadderPrice}
+use Rattle.ladder.specs.Search.{holds, first, latestAfter, latest, atLeast, atMost}
+use Rattle.ladder.specs.Places.{priceAt, placeOf, lastAfter}
 use Rattle.ladder.specs.Spreads.{spreadUp, spreadDown, times, ifHeld}
-use Rattle.ladder.specs.Laws.{ThePhase1Table, TheLadder, PlacesAreInverse, SmallestAbove, LargestBelow, SpreadUpIsNext, SpreadDownIsPrevious, NThenM, UpThenDown, SpreadsKeepOrder, RoundingKeepsOrder}
+use Rattle.ladder.specs.Laws.{ThePhase1Table, TheLadder, LadderRises, EndsAreTheTables, PlacesAreInverse, SmallestAbove, SpreadUpIsNext, LargestBelow, SpreadDownIsPrevious, NThenM, GoingByPlaces, UpThenDown, SmallestAtLeast, FirstIsSmallest, LargestAtMost, LatestIsLargest, SpreadsKeepOrder, RoundingKeepsOrder}
 use Rattle.ladder.proofs.Lists.Truth.{passed, true-of}
-use Rattle.ladder.proofs.Lists.Entries.{at-place, past, held-entry, place-of-entry, place-off, entry-of-place}
+use Rattle.ladder.proofs.Lists.Entries.{at-place, past, entry-held, held-entry, entries-rise, place-of-entry, place-off, entry-of-place}
+use Rattle.ladder.proofs.Lists.Extremes.{Best, None, Result, Least, Greatest, first-result, latest-result}
 use Rattle.ladder.proofs.Lists.Moves.{times-add}
+use Rattle.ladder.proofs.Lists.Going.{ups-entry, downs-entry}
 use Rattle.ladder.proofs.Answers.{answered}
-use Rattle.ladder.proofs.Tables.Table.{ladder-rises}
+use Rattle.ladder.proofs.Tables.Table.{table-facts, first-is-start, last-is-top, ladder-rises as rising}
 use Rattle.ladder.proofs.Tables.Members.{the-members}
 use Rattle.ladder.proofs.Lists.Order.{up-by, down-by, up-on, down-on, times-on, spreads-up-order, spreads-down-order, at-least-order, at-most-order}
 
 -- tested once, by computation
 pub the-phase1-table : ThePhase1Table
-unfolding phase1 wellFormed chained ladder held rungs priceAt
-the-phase1-table = record { well-formed = tt; prices = refl; first-place = refl; last-place = refl; no-more = refl }
+unfolding phase1 wellFormed chained ladder bandPrices rungs priceAt lastAfter
+the-phase1-table = record { well-formed = tt; prices = refl; first-place = refl; last-place = refl; no-more = refl; first-price = refl; last-price = refl }
 
 pub the-ladder : TheLadder
 the-ladder = the-members
@@ -38,6 +41,18 @@ module _ (t : List Band) (wf : T (wellFormed t)) where
 
   pub listed : (p : ℕ) → T (isLadderPrice p t) → T (holds p (ladder t))
   listed p h = rw (the-members t wf p) h
+
+-- ---- the list
+
+pub ladder-rises : LadderRises
+ladder-rises t wf = entries-rise (ladder t) (rising t wf)
+
+pub ends-are-the-tables : EndsAreTheTables
+ends-are-the-tables t wf =
+    record {
+      first-is-bottom = first-is-start t wf;
+      last-is-top = last-is-top t wf (length t - 1) (omega (arith, table-facts t wf .some));
+    }
 
 -- ---- places
 
@@ -53,7 +68,7 @@ places-are-inverse t wf =
     }
   where
     place : (k p : ℕ) → priceAt k (ladder t) ≡ Price p → placeOf p (ladder t) ≡ At k
-    place k p e = place-of-entry (ladder t) (ladder-rises t wf) 0 k p e ∙ ap At (zero-add k)
+    place k p e = place-of-entry (ladder t) (rising t wf) 0 k p e ∙ ap At (zero-add k)
 
 -- ---- spreads
 
@@ -62,13 +77,13 @@ spread-up-is-next t wf p =
     record {
       moves =
           λ x on over.
-          up-by (ladder t) (ladder-rises t wf) p (SmallestAbove t p)
+          up-by (ladder t) (rising t wf) p (SmallestAbove t p)
           (λ q b.
           record { on = priced t wf q (b .on); above = ltb→lt p q (b .passes); smallest = λ z h m. b .extreme z (listed t wf z h) (lt→ltb p z m) })
           (λ n. absurd (n x (listed t wf x on) (lt→ltb p x over)));
       stays =
           λ top.
-          up-by (ladder t) (ladder-rises t wf) p (λ q. q ≡ p)
+          up-by (ladder t) (rising t wf) p (λ q. q ≡ p)
           (λ q b. let m : p < q = ltb→lt p q (b .passes) in let u : q ≤ p = top q (priced t wf q (b .on)) in omega arith)
           (λ n. refl);
     }
@@ -78,13 +93,13 @@ spread-down-is-previous t wf p =
     record {
       moves =
           λ x on under.
-          down-by (ladder t) (ladder-rises t wf) p (LargestBelow t p)
+          down-by (ladder t) (rising t wf) p (LargestBelow t p)
           (λ q b.
           record { on = priced t wf q (b .on); below = ltb→lt q p (b .passes); largest = λ z h m. b .extreme z (listed t wf z h) (lt→ltb z p m) })
           (λ n. absurd (n x (listed t wf x on) (lt→ltb x p under)));
       stays =
           λ bottom.
-          down-by (ladder t) (ladder-rises t wf) p (λ q. q ≡ p)
+          down-by (ladder t) (rising t wf) p (λ q. q ≡ p)
           (λ q b. let m : q < p = ltb→lt q p (b .passes) in let u : p ≤ q = bottom q (priced t wf q (b .on)) in omega arith)
           (λ n. refl);
     }
@@ -100,26 +115,73 @@ adds l step on n m p q e =
 pub n-then-m : NThenM
 n-then-m t wf n m p q =
     record {
-      up = adds (ladder t) (spreadUp (ladder t)) (up-on (ladder t) (ladder-rises t wf)) n m p q;
-      down = adds (ladder t) (spreadDown (ladder t)) (down-on (ladder t) (ladder-rises t wf)) n m p q;
+      up = adds (ladder t) (spreadUp (ladder t)) (up-on (ladder t) (rising t wf)) n m p q;
+      down = adds (ladder t) (spreadDown (ladder t)) (down-on (ladder t) (rising t wf)) n m p q;
+    }
+
+pub going-by-places : GoingByPlaces
+going-by-places t wf k p n e =
+    let at = places-are-inverse t wf .price-of-place k p e in
+    let on = passed (holds p (ladder t)) (entry-held (ladder t) k p at) in
+    record {
+      up = rw on (sym (ups-entry (ladder t) (rising t wf) n k p at));
+      down = rw on (sym (downs-entry (ladder t) (rising t wf) n k p at));
     }
 
 pub up-then-down : UpThenDown
-unfolding phase1 ladder held rungs holds first latestAfter spreadUp spreadDown times
+unfolding phase1 ladder bandPrices rungs holds first latestAfter spreadUp spreadDown times
 up-then-down = record { up = refl; then-down = refl }
+
+-- ---- rounding
+
+pub first-is-smallest : FirstIsSmallest
+first-is-smallest t wf scale y =
+    record { found = λ q e. smallest (rw e at result); none = λ e x on. above (rw e at result) x on }
+  where
+    result : Result Least (atLeast scale y) (ladder t) (first (atLeast scale y) (ladder t))
+    result = first-result (atLeast scale y) (ladder t) (rising t wf)
+
+    smallest : {q : ℕ} → Best Least (atLeast scale y) (ladder t) q → SmallestAtLeast t scale y q
+    smallest {q} b =
+        record {
+          on = priced t wf q (b .on);
+          at-least = leb→le y (scale * q) (b .passes);
+          smallest = λ x h m. b .extreme x (listed t wf x h) (le→leb y (scale * x) m);
+        }
+
+    above : None (atLeast scale y) (ladder t) → (x : ℕ) → T (isLadderPrice x t) → scale * x < y
+    above n x h = lt-of-not-le (λ m. n x (listed t wf x h) (le→leb y (scale * x) m))
+
+pub latest-is-largest : LatestIsLargest
+latest-is-largest t wf scale y =
+    record { found = λ q e. largest (rw e at result); none = λ e x on. below (rw e at result) x on }
+  where
+    result : Result Greatest (atMost scale y) (ladder t) (latest (atMost scale y) (ladder t))
+    result = latest-result (atMost scale y) (ladder t) (rising t wf)
+
+    largest : {q : ℕ} → Best Greatest (atMost scale y) (ladder t) q → LargestAtMost t scale y q
+    largest {q} b =
+        record {
+          on = priced t wf q (b .on);
+          at-most = leb→le (scale * q) y (b .passes);
+          largest = λ x h m. b .extreme x (listed t wf x h) (le→leb (scale * x) y m);
+        }
+
+    below : None (atMost scale y) (ladder t) → (x : ℕ) → T (isLadderPrice x t) → y < scale * x
+    below n x h = lt-of-not-le (λ m. n x (listed t wf x h) (le→leb (scale * x) y m))
 
 -- ---- order
 
 pub spreads-keep-order : SpreadsKeepOrder
 spreads-keep-order t wf n p q h k m =
     record {
-      up = spreads-up-order (ladder t) (ladder-rises t wf) n p q (listed t wf p h) (listed t wf q k) m;
-      down = spreads-down-order (ladder t) (ladder-rises t wf) n p q (listed t wf p h) (listed t wf q k) m;
+      up = spreads-up-order (ladder t) (rising t wf) n p q (listed t wf p h) (listed t wf q k) m;
+      down = spreads-down-order (ladder t) (rising t wf) n p q (listed t wf p h) (listed t wf q k) m;
     }
 
 pub rounding-keeps-order : RoundingKeepsOrder
 rounding-keeps-order t wf scale y z m =
     record {
-      at-least = at-least-order (ladder t) (ladder-rises t wf) scale y z m;
-      at-most = at-most-order (ladder t) (ladder-rises t wf) scale y z m;
+      at-least = at-least-order (ladder t) (rising t wf) scale y z m;
+      at-most = at-most-order (ladder t) (rising t wf) scale y z m;
     }

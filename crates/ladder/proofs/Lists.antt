@@ -4,4 +4,5 @@ pub mod Rising
 pub mod Extremes
 pub mod Entries
 pub mod Moves
+pub mod Going
 pub mod Order

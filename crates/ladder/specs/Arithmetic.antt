@@ -1,5 +1,5 @@
 -- Band arithmetic: where a threshold lands, where a price stands, and one turn of a walk.
--- Only functions inside this crate speak of these; what other crates may call is told by the files above.
+-- Only functions inside this crate speak of these; what other crates may call is told by the other files.
 use mathlib.Core.Path.{_≡_}
 use Prim.Native.Nat.{ℕ, zero, suc, _+_, _-_, _*_, _/_, _%_, _≤_, _<_}
 use mathlib.Core.Bool.{cond}
@@ -16,7 +16,8 @@ use Rattle.ladder.specs.Bands.{Table, noBand}
 use Rattle.ladder.specs.Ladder.{width, ladder}
 use Rattle.ladder.specs.Search.{holds, first, latest, atLeast, atMost}
 
--- how many bands end below y: those whose top, times scale, is less than y. Where y lands on the table, this is the index of its band
+-- how many bands, from the first, end below y: their top, times scale, is less than y. Where y lands on the table, this is the
+-- index of its band; above the table it is the number of bands
 unfoldable pub bandsBelow : ℕ → ℕ → Table → ℕ
 bandsBelow scale y [] = 0
 bandsBelow scale y (b ∷ bs) = let rest = suc (bandsBelow scale y bs) in cond (ltb (scale * b .top) y) rest 0

@@ -5,7 +5,8 @@ use mathlib.Core.List.{List, [], _∷_}
 use lib.Dec.{eqb, ltb}
 use Rattle.ladder.specs.declared.Band.{Band}
 
--- a band holds the prices over its bottom, up to its top, a spread apart: its top, and not its bottom
+-- a band of this bottom, top and spread. It holds the prices over its bottom up to its top, a spread apart: its top, not its
+-- bottom. (The first bottom is a ladder price all the same: see Ladder.)
 abbrev pub band : ℕ → ℕ → ℕ → Band
 band bottom top spread = record { bottom = bottom; top = top; spread = spread }
 

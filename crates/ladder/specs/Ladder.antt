@@ -16,14 +16,14 @@ rungs s a zero = []
 rungs s a (suc n) = (a + s) ∷ rungs s (a + s) n
 
 -- the prices that the bands hold, band by band
-unfoldable pub held : Table → List ℕ
-held [] = []
-held (b ∷ bs) = rungs (b .spread) (b .bottom) (width b) ++ held bs
+unfoldable pub bandPrices : Table → List ℕ
+bandPrices [] = []
+bandPrices (b ∷ bs) = rungs (b .spread) (b .bottom) (width b) ++ bandPrices bs
 
 -- the ladder: the first bottom, and every price that a band holds
 unfoldable pub ladder : Table → List ℕ
 ladder [] = []
-ladder (b ∷ bs) = b .bottom ∷ held (b ∷ bs)
+ladder (b ∷ bs) = b .bottom ∷ bandPrices (b ∷ bs)
 
 -- "a price in a band that exceeds the band's bottom by a multiple of its spread"
 abbrev pub inBand : ℕ → Band → Bool

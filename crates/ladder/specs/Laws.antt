@@ -1,12 +1,12 @@
--- The laws of the ladder, over any well-formed table. Each is proved, under its name in small letters, in proofs/Laws.antt.
--- That band arithmetic ends where the plain count ends is no law of this list: it is what the contracts of the calls say.
+-- The laws of the ladder, over any well-formed table. Each is proved in proofs/Laws.antt: TheLadder as the-ladder, and so on.
+-- That band arithmetic ends where the plain count ends is not a law in this list: it is what the contracts of the calls say.
 use mathlib.Core.Path.{_≡_}
-use Prim.Native.Nat.{ℕ, _+_, _≤_, _<_}
+use Prim.Native.Nat.{ℕ, _+_, _-_, _*_, min, _≤_, _<_}
 use lib.Dec.{T}
-use lib.ListN.{length}
+use lib.ListN.{length, getD}
 use Rattle.ladder.specs.declared.Found.the-variants.{Price, Nothing}
 use Rattle.ladder.specs.declared.Place.the-variants.{At, OffLadder}
-use Rattle.ladder.specs.Bands.{Table, phase1, wellFormed}
+use Rattle.ladder.specs.Bands.{Table, noBand, phase1, wellFormed}
 use Rattle.ladder.specs.Ladder.{ladder, isLadderPrice}
 use Rattle.ladder.specs.Search.{holds, first, latest, orElse, atLeast, atMost}
 use Rattle.ladder.specs.Places.{priceAt, placeOf, firstPrice, lastPrice}
@@ -19,10 +19,25 @@ pub record ThePhase1Table : Type 0 where
   pub first-place : priceAt 0 (ladder phase1) ≡ Price 10
   pub last-place : priceAt 11739 (ladder phase1) ≡ Price 9995000
   pub no-more : priceAt 11740 (ladder phase1) ≡ Nothing
+  pub first-price : firstPrice (ladder phase1) ≡ 10
+  pub last-price : lastPrice (ladder phase1) ≡ 9995000
 
 -- The list holds exactly what document 01 calls ladder prices.
 abbrev pub TheLadder : Type 0
 TheLadder = (t : Table) → T (wellFormed t) → (p : ℕ) → holds p (ladder t) ≡ isLadderPrice p t
+
+-- The list rises: a later place has a higher price.
+abbrev pub LadderRises : Type 0
+LadderRises =
+    (t : Table) → T (wellFormed t) → (j k p q : ℕ) → j < k → priceAt j (ladder t) ≡ Price p → priceAt k (ladder t) ≡ Price q → p < q
+
+-- Its ends are the first bottom and the last top.
+pub record Ends (t : Table) : Type 0 where
+  pub first-is-bottom : firstPrice (ladder t) ≡ getD t 0 noBand .bottom
+  pub last-is-top : lastPrice (ladder t) ≡ getD t (length t - 1) noBand .top
+
+abbrev pub EndsAreTheTables : Type 0
+EndsAreTheTables = (t : Table) → T (wellFormed t) → Ends t
 
 -- Place of price and price of place are inverse, both ways and without loss: each ladder price has a place, and each place a price;
 -- a price off the ladder has no place, and a place above the last no price.
@@ -66,16 +81,51 @@ SpreadDownIsPrevious = (t : Table) → T (wellFormed t) → (p : ℕ) → Single
 
 -- n spreads, and then m from where they end, are n + m spreads: up, and down.
 pub record Adds (t : Table) (n m p q : ℕ) : Type 0 where
-  pub up : spreadsUp (ladder t) n p ≡ Price q → spreadsUp (ladder t) m q ≡ spreadsUp (ladder t) (n + m) p
-  pub down : spreadsDown (ladder t) n p ≡ Price q → spreadsDown (ladder t) m q ≡ spreadsDown (ladder t) (n + m) p
+  pub up : spreadsUp (ladder t) p n ≡ Price q → spreadsUp (ladder t) q m ≡ spreadsUp (ladder t) p (n + m)
+  pub down : spreadsDown (ladder t) p n ≡ Price q → spreadsDown (ladder t) q m ≡ spreadsDown (ladder t) p (n + m)
 
 abbrev pub NThenM : Type 0
 NThenM = (t : Table) → T (wellFormed t) → (n m p q : ℕ) → Adds t n m p q
 
+-- Going by places is the same: n spreads up from place k lead n places on, or to the last, and n spreads down n places back, or to the first.
+pub record ByPlaces (t : Table) (k p n : ℕ) : Type 0 where
+  pub up : spreadsUp (ladder t) p n ≡ priceAt (min (k + n) (length (ladder t) - 1)) (ladder t)
+  pub down : spreadsDown (ladder t) p n ≡ priceAt (k - n) (ladder t)
+
+abbrev pub GoingByPlaces : Type 0
+GoingByPlaces = (t : Table) → T (wellFormed t) → (k p n : ℕ) → placeOf p (ladder t) ≡ At k → ByPlaces t k p n
+
 -- Up and then down need not return: a spread up from 9,995.000 halts there, and a spread down from there is 9,990.000.
 pub record UpThenDown : Type 0 where
-  pub up : spreadsUp (ladder phase1) 1 9995000 ≡ Price 9995000
-  pub then-down : spreadsDown (ladder phase1) 1 9995000 ≡ Price 9990000
+  pub up : spreadsUp (ladder phase1) 9995000 1 ≡ Price 9995000
+  pub then-down : spreadsDown (ladder phase1) 9995000 1 ≡ Price 9990000
+
+-- q is the smallest ladder price with scale * q at least y; q is the largest with scale * q at most y
+pub record SmallestAtLeast (t : Table) (scale y q : ℕ) : Type 0 where
+  pub on : T (isLadderPrice q t)
+  pub at-least : y ≤ scale * q
+  pub smallest : (x : ℕ) → T (isLadderPrice x t) → y ≤ scale * x → q ≤ x
+
+pub record LargestAtMost (t : Table) (scale y q : ℕ) : Type 0 where
+  pub on : T (isLadderPrice q t)
+  pub at-most : scale * q ≤ y
+  pub largest : (x : ℕ) → T (isLadderPrice x t) → scale * x ≤ y → x ≤ q
+
+-- The first price in the list with scale * q at least y is the smallest such ladder price, and nothing is found only where there is none.
+pub record FirstAtLeast (t : Table) (scale y : ℕ) : Type 0 where
+  pub found : (q : ℕ) → first (atLeast scale y) (ladder t) ≡ Price q → SmallestAtLeast t scale y q
+  pub none : first (atLeast scale y) (ladder t) ≡ Nothing → (x : ℕ) → T (isLadderPrice x t) → scale * x < y
+
+abbrev pub FirstIsSmallest : Type 0
+FirstIsSmallest = (t : Table) → T (wellFormed t) → (scale y : ℕ) → FirstAtLeast t scale y
+
+-- The latest price in the list with scale * q at most y is the largest such ladder price, and nothing is found only where there is none.
+pub record LatestAtMost (t : Table) (scale y : ℕ) : Type 0 where
+  pub found : (q : ℕ) → latest (atMost scale y) (ladder t) ≡ Price q → LargestAtMost t scale y q
+  pub none : latest (atMost scale y) (ladder t) ≡ Nothing → (x : ℕ) → T (isLadderPrice x t) → y < scale * x
+
+abbrev pub LatestIsLargest : Type 0
+LatestIsLargest = (t : Table) → T (wellFormed t) → (scale y : ℕ) → LatestAtMost t scale y
 
 -- Of two ladder prices the higher one is no lower after n spreads up, nor after n spreads down.
 pub record SpreadsOrdered (t : Table) (n p q : ℕ) : Type 0 where

@@ -25,7 +25,7 @@ ifHeld p l answer = cond (holds p l) (Price answer) Nothing
 
 -- n spreads up and n spreads down from p
 abbrev pub spreadsUp : List ℕ → ℕ → ℕ → Found
-spreadsUp l n p = ifHeld p l (times n (spreadUp l) p)
+spreadsUp l p n = ifHeld p l (times n (spreadUp l) p)
 
 abbrev pub spreadsDown : List ℕ → ℕ → ℕ → Found
-spreadsDown l n p = ifHeld p l (times n (spreadDown l) p)
+spreadsDown l p n = ifHeld p l (times n (spreadDown l) p)

@@ -1,4 +1,5 @@
-// The layout of a table as plain numbers, three a band: bottom, top, spread. No other file knows it.
+// The layout of a table as plain numbers, three a band: bottom, top, spread. Beside this file only `table.rt`, which lays out
+// Phase 1, knows it.
 use super::Band;
 ghost use mathlib.Core.Path.{_≡_};
 ghost use Prim.Native.Nat.{_<_, _≤_};
@@ -28,7 +29,7 @@ pub(crate) fn band_at(table: &[u32], k: usize) -> Band
 }
 
 // How many spreads wide a band is.
-pub(crate) fn spreads_of(band: Band) -> u32
+pub(crate) fn width_of(band: Band) -> u32
     requires { ⌜ (band .bottom ≤ band .top) × (0 < band .spread) ⌝ }
     ensures { λ r. ⌜ r ≡ width band ⌝ }
 {

@@ -5,6 +5,7 @@
 mod bands; // bands.rt: the layout of a table as plain numbers
 mod search; // search.rt: the band where a threshold lands, and where a price stands
 mod turns; // turns.rt: one band of a walk
+pub mod numbers; // numbers.rt: products that do not wrap
 pub mod table; // table.rt: the Phase 1 table, and the ends of a ladder
 pub mod places; // places.rt: place to price, price to place
 pub mod steps; // steps.rt: n spreads up and down
@@ -24,13 +25,14 @@ pub struct Band {
     pub spread: u32,
 }
 
-// A ladder price, or none.
+// A ladder price, or nothing: for a place above the last, for a step or a limit from a price off the ladder, or where no ladder
+// price meets a bound. Each call has one of these reasons.
 pub enum Found {
     Price(u32),
     Nothing,
 }
 
-// The place of a ladder price, or that a price is off the ladder.
+// The place of a ladder price; a price off the ladder has none.
 pub enum Place {
     At(u32),
     OffLadder,
@@ -44,7 +46,7 @@ pub fn price_at(place: u32) -> Found
     places::price_at(&table, place)
 }
 
-// The place of a price, or that it is off the ladder.
+// The place of a price; `OffLadder` for a price off the ladder.
 pub fn place_of(price: u32) -> Place
     ensures { λ r. ⌜ r ≡ placeOf price (ladder phase1) ⌝ }
 {
@@ -54,7 +56,7 @@ pub fn place_of(price: u32) -> Place
 
 // The price n spreads up, halting at the last; nothing from a price off the ladder.
 pub fn up(price: u32, n: u64) -> Found
-    ensures { λ r. ⌜ r ≡ spreadsUp (ladder phase1) n price ⌝ }
+    ensures { λ r. ⌜ r ≡ spreadsUp (ladder phase1) price n ⌝ }
 {
     let table = table::phase_1();
     steps::up(&table, price, n)
@@ -62,13 +64,13 @@ pub fn up(price: u32, n: u64) -> Found
 
 // The price n spreads down, halting at the first; nothing from a price off the ladder.
 pub fn down(price: u32, n: u64) -> Found
-    ensures { λ r. ⌜ r ≡ spreadsDown (ladder phase1) n price ⌝ }
+    ensures { λ r. ⌜ r ≡ spreadsDown (ladder phase1) price n ⌝ }
 {
     let table = table::phase_1();
     steps::down(&table, price, n)
 }
 
-// The smallest ladder price q with scale * q at least y; nothing where no ladder price is.
+// The smallest ladder price q with scale * q at least y; nothing where there is none.
 pub fn at_least(scale: u32, y: u64) -> Found
     ensures { λ r. ⌜ r ≡ first (atLeast scale y) (ladder phase1) ⌝ }
 {
@@ -76,7 +78,7 @@ pub fn at_least(scale: u32, y: u64) -> Found
     rounding::at_least(&table, scale, y)
 }
 
-// The largest ladder price q with scale * q at most y; nothing where no ladder price is.
+// The largest ladder price q with scale * q at most y; nothing where there is none.
 pub fn at_most(scale: u32, y: u64) -> Found
     ensures { λ r. ⌜ r ≡ latest (atMost scale y) (ladder phase1) ⌝ }
 {

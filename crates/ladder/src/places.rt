@@ -21,7 +21,7 @@ pub fn on_ladder(table: &[u32], price: u32) -> bool
     ensures { λ r. ⌜ r ≡ holds price (pricesOf (now (table .entry))) ⌝ }
 {
     let standing = search::standing_of(table, price);
-    let Standing::In(_band) = standing else {
+    let Standing::In(_index) = standing else {
         return false;
     };
     true
@@ -53,31 +53,31 @@ pub fn price_at(table: &[u32], place: u32) -> Found
     }
 }
 
-// How many places lie below a band.
-fn places_below(table: &[u32], band: usize) -> u32
+// How many places lie below the band with this index.
+fn places_below(table: &[u32], index: usize) -> u32
     requires { ⌜ T (isTable (now table)) ⌝ }
-    requires { ⌜ band < length (bandsOf (now table)) ⌝ }
-    ensures { λ r. ⌜ r ≡ placesBelow band (bandsOf (now (table .entry))) ⌝ }
+    requires { ⌜ index < length (bandsOf (now table)) ⌝ }
+    ensures { λ r. ⌜ r ≡ placesBelow index (bandsOf (now (table .entry))) ⌝ }
 {
     let mut places: u32 = 0;
     let mut k = 0;
-    while k < band {
-        let spreads = bands::spreads_of(bands::band_at(table, k));
+    while k < index {
+        let spreads = bands::width_of(bands::band_at(table, k));
         places += spreads;
         k += 1;
     }
     places
 }
 
-// The place of a price, or that it is off the ladder.
+// The place of a price; `OffLadder` for a price off the ladder.
 pub fn place_of(table: &[u32], price: u32) -> Place
     requires { ⌜ T (isTable (now table)) ⌝ }
     ensures { λ r. ⌜ r ≡ placeOf price (pricesOf (now (table .entry))) ⌝ }
 {
     let standing = search::standing_of(table, price);
-    let Standing::In(k) = standing else {
+    let Standing::In(index) = standing else {
         return Place::OffLadder;
     };
-    let band = bands::band_at(table, k);
-    Place::At(places_below(table, k) + (price - band.bottom) / band.spread)
+    let band = bands::band_at(table, index);
+    Place::At(places_below(table, index) + (price - band.bottom) / band.spread)
 }

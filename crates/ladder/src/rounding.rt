@@ -1,6 +1,7 @@
 // The ladder prices next to a threshold, by one division with the spread of the band where it lands.
 use super::Found;
 use super::bands;
+use super::numbers::product;
 use super::search;
 use super::table;
 ghost use mathlib.Core.Path.{_≡_};
@@ -15,13 +16,6 @@ ghost use Rattle.ladder.specs.Arithmetic.{Between};
 pub(crate) struct Gap {
     pub below: u32,
     pub above: u32,
-}
-
-// The whole product of two numbers: a price times its scale, or a threshold.
-pub fn product(a: u32, b: u32) -> u64
-    ensures { λ r. ⌜ r ≡ a * b ⌝ }
-{
-    (a as u64) * (b as u64)
 }
 
 // The neighbours between which a threshold inside the ladder lands: scale * below < y <= scale * above.
@@ -43,35 +37,35 @@ fn between(table: &[u32], scale: u32, y: u64) -> Gap
     }
 }
 
-// The smallest ladder price q with scale * q at least y; nothing where no ladder price is.
+// The smallest ladder price q with scale * q at least y; nothing where there is none.
 pub fn at_least(table: &[u32], scale: u32, y: u64) -> Found
     requires { ⌜ T (isTable (now table)) ⌝ }
     ensures { λ r. ⌜ r ≡ first (atLeast scale y) (pricesOf (now (table .entry))) ⌝ }
 {
-    let first = table::first_price(table);
-    let last = table::last_price(table);
-    if product(scale, last) < y {
+    let first_price = table::first_price(table);
+    let last_price = table::last_price(table);
+    if product(scale, last_price) < y {
         return Found::Nothing;
     }
-    if y <= product(scale, first) {
-        return Found::Price(first);
+    if y <= product(scale, first_price) {
+        return Found::Price(first_price);
     }
     let gap = between(table, scale, y);
     Found::Price(gap.above)
 }
 
-// The largest ladder price q with scale * q at most y; nothing where no ladder price is.
+// The largest ladder price q with scale * q at most y; nothing where there is none.
 pub fn at_most(table: &[u32], scale: u32, y: u64) -> Found
     requires { ⌜ T (isTable (now table)) ⌝ }
     ensures { λ r. ⌜ r ≡ latest (atMost scale y) (pricesOf (now (table .entry))) ⌝ }
 {
-    let first = table::first_price(table);
-    let last = table::last_price(table);
-    if y < product(scale, first) {
+    let first_price = table::first_price(table);
+    let last_price = table::last_price(table);
+    if y < product(scale, first_price) {
         return Found::Nothing;
     }
-    if product(scale, last) <= y {
-        return Found::Price(last);
+    if product(scale, last_price) <= y {
+        return Found::Price(last_price);
     }
     let gap = between(table, scale, y + 1);
     Found::Price(gap.below)

@@ -1,6 +1,6 @@
 // The one search for a band: where a threshold lands, and where a price stands.
 use super::bands;
-use super::rounding::product;
+use super::numbers::product;
 ghost use mathlib.Core.Path.{_≡_};
 ghost use lib.Dec.{T};
 ghost use Rattle.ladder.specs.Layout.{bandsOf, isTable};
@@ -13,7 +13,8 @@ pub(crate) enum Standing {
     OffLadder,
 }
 
-// How many bands end where scale times the price is below y: the index of the band where y lands.
+// How many bands, from the first, end below y / scale. Where y lands on the table, this is the index of its band; above the
+// table it is the number of bands.
 pub(crate) fn bands_below(table: &[u32], scale: u32, y: u64) -> usize
     ensures { λ r. ⌜ r ≡ bandsBelow scale y (bandsOf (now (table .entry))) ⌝ }
 {
@@ -29,7 +30,7 @@ pub(crate) fn bands_below(table: &[u32], scale: u32, y: u64) -> usize
     k
 }
 
-// The band of a price, or that the price is off the ladder.
+// Where a price stands.
 pub(crate) fn standing_of(table: &[u32], price: u32) -> Standing
     requires { ⌜ T (isTable (now table)) ⌝ }
     ensures { λ r. ⌜ r ≡ standingOf price (bandsOf (now (table .entry))) ⌝ }

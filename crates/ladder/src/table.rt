@@ -71,7 +71,7 @@ const PHASE_1: [Band; 12] = [
     },
 ];
 
-// The Phase 1 table, laid out to be lent.
+// The Phase 1 table laid out as plain numbers, for the calls that are lent a table.
 pub fn phase_1() -> [u32; 36]
     ensures { λ r. ⌜ bandsOf r ≡ phase1 ⌝ }
     ensures { λ r. ⌜ T (isTable r) ⌝ }

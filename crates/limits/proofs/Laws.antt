@@ -1,16 +1,36 @@
 -- The laws of specs/Laws.antt, proved from the laws of the ladder.
-use mathlib.Core.Path.{_≡_}
+use mathlib.Core.Path.{_≡_, refl}
 use Prim.Native.Nat.{ℕ, _*_, _≤_}
-use native.Mathlib.Nat.{mul-le-mul-left}
+use native.Mathlib.Nat.{mul-le-mul-left, mul-le-mul-right}
 use native.Mathlib.Omega.{arith}
 use lib.Dec.{T}
-use Rattle.ladder.specs.declared.Found.the-variants.{Price}
+use Rattle.ladder.specs.declared.Found.the-variants.{Price, Nothing}
+use Rattle.ladder.specs.declared.Found.{Found}
 use Rattle.ladder.specs.Bands.{phase1}
+use Rattle.ladder.specs.Search.{first, latest, atLeast, atMost}
 use Rattle.ladder.specs.Ladder.{ladder, isLadderPrice}
 use Rattle.ladder.specs.Spreads.{ifHeld}
 use Rattle.ladder.proofs.Answers.{answered}
-use Rattle.ladder.proofs.Laws.{the-phase1-table, the-ladder, spreads-keep-order, rounding-keeps-order}
-use Rattle.limits.specs.Laws.{LimitsAreOrdered, HigherReference}
+use Rattle.ladder.proofs.Laws.{the-phase1-table, the-ladder, first-is-smallest, latest-is-largest, spreads-keep-order, rounding-keeps-order}
+use Rattle.limits.specs.Laws.{PercentageFinds, LimitsAreOrdered, HigherReference}
+
+-- a search that cannot find nothing finds a price
+finds : (f : Found) → (f ≡ Nothing → ⊥) → (q : ℕ) × (f ≡ Price q)
+finds (Price q) never = (q, refl)
+finds Nothing never = absurd (never refl)
+
+pub percentage-finds : PercentageFinds
+percentage-finds t wf scale factor r on =
+    record {
+      lower =
+          λ m.
+          finds (first (atLeast scale (factor * r)) (ladder t))
+          (λ e. omega (arith, first-is-smallest t wf scale (factor * r) .none e r on, mul-le-mul-right r m));
+      upper =
+          λ m.
+          finds (latest (atMost scale (factor * r)) (ladder t))
+          (λ e. omega (arith, latest-is-largest t wf scale (factor * r) .none e r on, mul-le-mul-right r m));
+    }
 
 pub limits-are-ordered : LimitsAreOrdered
 limits-are-ordered t wf scale factor p q h k m =

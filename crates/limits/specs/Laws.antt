@@ -1,14 +1,23 @@
--- The order of the limits: of two ladder prices as references the higher one has no smaller limit.
--- Each law is proved, under its name in small letters, in proofs/Laws.antt.
+-- The laws of the limits. Each is proved in proofs/Laws.antt: LimitsAreOrdered as limits-are-ordered, and so on.
 use mathlib.Core.Path.{_≡_}
-use Prim.Native.Nat.{ℕ, _≤_}
+use Prim.Native.Nat.{ℕ, _*_, _≤_}
 use lib.Dec.{T}
 use Rattle.ladder.specs.declared.Found.the-variants.{Price}
 use Rattle.ladder.specs.Bands.{Table, phase1, wellFormed}
 use Rattle.ladder.specs.Ladder.{ladder, isLadderPrice}
+use Rattle.ladder.specs.Search.{first, latest, atLeast, atMost}
 use Rattle.limits.specs.Limits.{low, high, lowerLimit, upperLimit}
 
--- Over any well-formed table, for any scale and factor.
+-- A percentage limit of a ladder price always finds a price, where the percentage is taken off for the lower limit and added for the
+-- upper one, as at 5 percent: the reference itself is one. The end of the ladder stands in only at other factors.
+pub record Finds (t : Table) (scale factor r : ℕ) : Type 0 where
+  pub lower : factor ≤ scale → (q : ℕ) × (first (atLeast scale (factor * r)) (ladder t) ≡ Price q)
+  pub upper : scale ≤ factor → (q : ℕ) × (latest (atMost scale (factor * r)) (ladder t) ≡ Price q)
+
+abbrev pub PercentageFinds : Type 0
+PercentageFinds = (t : Table) → T (wellFormed t) → (scale factor r : ℕ) → T (isLadderPrice r t) → Finds t scale factor r
+
+-- Of two ladder prices as references the higher one has no smaller limit: over any well-formed table, for any scale and factor.
 pub record Ordered (t : Table) (scale factor p q : ℕ) : Type 0 where
   pub lower : low (ladder t) scale factor p ≤ low (ladder t) scale factor q
   pub upper : high (ladder t) scale factor p ≤ high (ladder t) scale factor q

@@ -8,7 +8,8 @@ use Rattle.ladder.specs.Places.{firstPrice, lastPrice}
 use Rattle.ladder.specs.Spreads.{spreadUp, spreadDown, times, ifHeld}
 
 -- the percentage limits by themselves, before spreads are looked at: the first price q with scale * q at least factor * r,
--- the latest with scale * q at most factor * r; where no price is found, the end of the ladder
+-- the latest with scale * q at most factor * r. Where there is none, the last price and the first price stand in (at 5 percent
+-- that does not happen: the law PercentageFinds)
 abbrev pub percentLower : List ℕ → ℕ → ℕ → ℕ → ℕ
 percentLower l scale factor r = orElse (lastPrice l) (first (atLeast scale (factor * r)) l)
 
@@ -36,7 +37,7 @@ lowOf l scale factor r = ifHeld r l (low l scale factor r)
 abbrev pub highOf : List ℕ → ℕ → ℕ → ℕ → Found
 highOf l scale factor r = ifHeld r l (high l scale factor r)
 
--- at 5 percent
+-- at 5 percent: the two limits, Low(R) and High(R) of document 01, and the 5 percent limits by themselves
 abbrev pub fivePercentLower : List ℕ → ℕ → Found
 fivePercentLower l r = percentLowerOf l 100 95 r
 

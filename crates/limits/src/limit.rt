@@ -32,7 +32,8 @@ pub fn lower(table: &[u32], scale: u32, factor: u32, reference: u32) -> Found
     let Found::Price(spreads) = found else {
         return Found::Nothing;
     };
-    Found::Price(smaller(spreads, percent::lowest(table, scale, factor, reference)))
+    let rounded = percent::rounded_up(table, scale, factor, reference);
+    Found::Price(smaller(spreads, rounded))
 }
 
 // The upper limit: the larger of 24 spreads up and the percentage limit; nothing from a reference off the ladder.
@@ -44,5 +45,6 @@ pub fn upper(table: &[u32], scale: u32, factor: u32, reference: u32) -> Found
     let Found::Price(spreads) = found else {
         return Found::Nothing;
     };
-    Found::Price(larger(spreads, percent::highest(table, scale, factor, reference)))
+    let rounded = percent::rounded_down(table, scale, factor, reference);
+    Found::Price(larger(spreads, rounded))
 }

@@ -1,5 +1,6 @@
 // The percentage limits of a reference by themselves, before spreads are looked at.
 use ladder::Found;
+use ladder::numbers;
 use ladder::places;
 use ladder::rounding;
 use ladder::table;
@@ -9,11 +10,11 @@ ghost use Rattle.ladder.specs.Layout.{isTable, pricesOf};
 ghost use Rattle.limits.specs.Limits.{percentLower, percentUpper, percentLowerOf, percentUpperOf};
 
 // The smallest ladder price q with scale * q at least factor * reference, or the last price where there is none.
-pub(crate) fn lowest(table: &[u32], scale: u32, factor: u32, reference: u32) -> u32
+pub(crate) fn rounded_up(table: &[u32], scale: u32, factor: u32, reference: u32) -> u32
     requires { ⌜ T (isTable (now table)) ⌝ }
     ensures { λ r. ⌜ r ≡ percentLower (pricesOf (now (table .entry))) scale factor reference ⌝ }
 {
-    let found = rounding::at_least(table, scale, rounding::product(factor, reference));
+    let found = rounding::at_least(table, scale, numbers::product(factor, reference));
     match found {
         Found::Price(price) => price,
         Found::Nothing => table::last_price(table),
@@ -21,11 +22,11 @@ pub(crate) fn lowest(table: &[u32], scale: u32, factor: u32, reference: u32) -> 
 }
 
 // The largest ladder price q with scale * q at most factor * reference, or the first price where there is none.
-pub(crate) fn highest(table: &[u32], scale: u32, factor: u32, reference: u32) -> u32
+pub(crate) fn rounded_down(table: &[u32], scale: u32, factor: u32, reference: u32) -> u32
     requires { ⌜ T (isTable (now table)) ⌝ }
     ensures { λ r. ⌜ r ≡ percentUpper (pricesOf (now (table .entry))) scale factor reference ⌝ }
 {
-    let found = rounding::at_most(table, scale, rounding::product(factor, reference));
+    let found = rounding::at_most(table, scale, numbers::product(factor, reference));
     match found {
         Found::Price(price) => price,
         Found::Nothing => table::first_price(table),
@@ -38,7 +39,7 @@ pub fn lower(table: &[u32], scale: u32, factor: u32, reference: u32) -> Found
     ensures { λ r. ⌜ r ≡ percentLowerOf (pricesOf (now (table .entry))) scale factor reference ⌝ }
 {
     if places::on_ladder(table, reference) {
-        Found::Price(lowest(table, scale, factor, reference))
+        Found::Price(rounded_up(table, scale, factor, reference))
     } else {
         Found::Nothing
     }
@@ -50,7 +51,7 @@ pub fn upper(table: &[u32], scale: u32, factor: u32, reference: u32) -> Found
     ensures { λ r. ⌜ r ≡ percentUpperOf (pricesOf (now (table .entry))) scale factor reference ⌝ }
 {
     if places::on_ladder(table, reference) {
-        Found::Price(highest(table, scale, factor, reference))
+        Found::Price(rounded_down(table, scale, factor, reference))
     } else {
         Found::Nothing
     }

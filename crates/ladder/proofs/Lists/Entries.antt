@@ -1,7 +1,7 @@
 -- Places on a list: what stands at a place, and the place of what stands there.
 use mathlib.Core.Path.{_≡_, refl, ap, sym, _∙_}
-use Prim.Native.Nat.{ℕ, zero, suc, _+_, _≤_, _<_}
-use native.Mathlib.Nat.{not-suc-le-zero, le-of-suc-le-suc}
+use Prim.Native.Nat.{suc-le-suc, _<_, ℕ, zero, suc, _+_, _≤_, _<_}
+use native.Mathlib.Nat.{suc-inj, not-suc-le-zero, le-of-suc-le-suc}
 use native.Mathlib.Omega.{arith}
 use mathlib.Core.Bool.{Bool, true, false, cond}
 use mathlib.Core.List.{List, [], _∷_}
@@ -11,7 +11,7 @@ use lib.ListN.{length}
 use Rattle.ladder.specs.declared.Found.the-variants.{Price, Nothing}
 use Rattle.ladder.specs.declared.Place.the-variants.{At, OffLadder}
 use Rattle.ladder.specs.Search.{holds}
-use Rattle.ladder.specs.Places.{priceAt, placeFrom}
+use Rattle.ladder.specs.Places.{priceAt, placeFrom, firstPrice, lastAfter, lastPrice}
 use Rattle.ladder.proofs.Lists.Truth.{zero-is-one}
 use Rattle.ladder.proofs.Lists.Rising.{Rising, held-cases, held-first, held-rest, held-none, Next, behind, front}
 
@@ -89,3 +89,35 @@ unfolding priceAt
 past [] k h = refl
 past (a ∷ l) zero h = absurd (not-suc-le-zero h)
 past (a ∷ l) (suc k) h = past l k (le-of-suc-le-suc h)
+
+-- a place with a price is below the number of prices
+pub entry-below : (l : List ℕ) (k p : ℕ) → priceAt k l ≡ Price p → k < length l
+unfolding priceAt
+entry-below [] k p e = no-price p e
+entry-below (a ∷ l) zero p e = omega arith
+entry-below (a ∷ l) (suc k) p e = suc-le-suc (entry-below l k p e)
+
+-- later places have higher prices
+pub entries-rise : (l : List ℕ) → Rising l → (j k p q : ℕ) → j < k → priceAt j l ≡ Price p → priceAt k l ≡ Price q → p < q
+unfolding priceAt
+entries-rise [] r j k p q m e f = no-price p e
+entries-rise (a ∷ l) r j zero p q m e f = absurd (not-suc-le-zero m)
+entries-rise (a ∷ l) r zero (suc k) p q m e f =
+    let i : p ≡ a = cc in
+    let u : a < q = r .0 q (entry-held l k q f) in
+    omega arith
+entries-rise (a ∷ l) r (suc j) (suc k) p q m e f = entries-rise l (r .1) j k p q (le-of-suc-le-suc m) e f
+
+-- the price at the first place, and at the last
+pub first-entry : (l : List ℕ) (p : ℕ) → priceAt 0 l ≡ Price p → p ≡ firstPrice l
+unfolding priceAt
+first-entry [] p e = no-price p e
+first-entry (a ∷ l) p e = cc
+
+pub last-entry : (l : List ℕ) (k p : ℕ) → priceAt k l ≡ Price p → suc k ≡ length l → p ≡ lastPrice l
+unfolding priceAt lastAfter
+last-entry [] k p e h = no-price p e
+last-entry (a ∷ []) zero p e h = cc
+last-entry (a ∷ []) (suc k) p e h = no-price p e
+last-entry (a ∷ b ∷ l) zero p e h = absurd (zero-is-one (omega arith))
+last-entry (a ∷ b ∷ l) (suc k) p e h = last-entry (b ∷ l) k p e (suc-inj h)

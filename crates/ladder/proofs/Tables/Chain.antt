@@ -10,7 +10,7 @@ use lib.ListN.{length, getD}
 use Rattle.ladder.specs.declared.Band.{Band}
 use Rattle.ladder.specs.declared.Found.the-variants.{Price, Nothing}
 use Rattle.ladder.specs.Bands.{noBand, whole, chained}
-use Rattle.ladder.specs.Ladder.{width, rungs, held}
+use Rattle.ladder.specs.Ladder.{width, rungs, bandPrices}
 use Rattle.ladder.specs.Arithmetic.{placesBelow}
 use Rattle.ladder.specs.Places.{priceAt, lastAfter}
 use Rattle.ladder.proofs.Lists.Truth.{and-left, and-right}
@@ -79,15 +79,15 @@ rungs-past s a (suc w) r top m k e f =
 
 -- entry i of band k
 pub band-entry : (a : ℕ) (t : List Band) → Chain a t → (k i j : ℕ) → k < length t → i ≤ width (bandAt t k) → j ≡ placesBelow k t + i →
-    priceAt j (a ∷ held t) ≡ Price (i * bandAt t k .spread + bandAt t k .bottom)
-unfolding held placesBelow
+    priceAt j (a ∷ bandPrices t) ≡ Price (i * bandAt t k .spread + bandAt t k .bottom)
+unfolding bandPrices placesBelow
 band-entry a [] c k i j h w e = absurd (not-suc-le-zero h)
 band-entry a (b ∷ bs) c zero i j h w e =
     let f : j ≡ i = omega arith in
-    rw (f, ← (c .0)) (rungs-entry (b .spread) (b .bottom) (width b) (held bs) i w)
+    rw (f, ← (c .0)) (rungs-entry (b .spread) (b .bottom) (width b) (bandPrices bs) i w)
 band-entry a (b ∷ bs) c (suc k) i j h w e =
     rw (← (c .0))
-    (rungs-past (b .spread) (b .bottom) (width b) (held bs) (b .top) (placesBelow k bs + i) j (sym (c .1 .divides)) (omega arith) ∙
+    (rungs-past (b .spread) (b .bottom) (width b) (bandPrices bs) (b .top) (placesBelow k bs + i) j (sym (c .1 .divides)) (omega arith) ∙
     band-entry (b .top) bs (c .2) k i (placesBelow k bs + i) (le-of-suc-le-suc h) w refl)
 
 -- a list that rises behind the top of a band rises behind its bottom
@@ -98,12 +98,12 @@ rungs-rise s a (suc w) r top e pos h =
     let rest = rungs-rise s (a + s) w r top (omega arith) pos h in
     ((λ x m. held-cases (a + s) (rungs s (a + s) w ++ r) x m (λ u. omega arith) (λ v. let u : a + s < x = rest .0 x v in omega arith)), rest)
 
-pub rises : (a : ℕ) (t : List Band) → Chain a t → Rising (a ∷ held t)
-unfolding held
+pub rises : (a : ℕ) (t : List Band) → Chain a t → Rising (a ∷ bandPrices t)
+unfolding bandPrices
 rises a [] c = ((λ x m. held-none x m), tt)
 rises a (b ∷ bs) c =
     rw (← (c .0))
-    (rungs-rise (b .spread) (b .bottom) (width b) (held bs) (b .top) (sym (c .1 .divides)) (c .1 .spreads) (rises (b .top) bs (c .2)))
+    (rungs-rise (b .spread) (b .bottom) (width b) (bandPrices bs) (b .top) (sym (c .1 .divides)) (c .1 .spreads) (rises (b .top) bs (c .2)))
 
 -- ---- the last price
 
@@ -113,24 +113,24 @@ rungs-last s a zero r top e = let i : a ≡ top = omega arith in rw i
 rungs-last s a (suc w) r top e = rungs-last s (a + s) w r top (omega arith)
 
 -- the ladder's last price is the last top
-pub last-top : (a : ℕ) (t : List Band) → Chain a t → (k : ℕ) → length t ≡ suc k → lastAfter a (held t) ≡ bandAt t k .top
-unfolding held lastAfter
+pub last-top : (a : ℕ) (t : List Band) → Chain a t → (k : ℕ) → length t ≡ suc k → lastAfter a (bandPrices t) ≡ bandAt t k .top
+unfolding bandPrices lastAfter
 last-top a [] c k e = absurd (lt-irrefl 0 (omega arith))
 last-top a (b ∷ []) c zero e = rw (← (c .0)) (rungs-last (b .spread) (b .bottom) (width b) [] (b .top) (sym (c .1 .divides)))
 last-top a (b ∷ []) c (suc k) e = absurd (lt-irrefl 0 (omega arith))
 last-top a (b ∷ d ∷ bs) c zero e = absurd (lt-irrefl 0 (omega arith))
 last-top a (b ∷ d ∷ bs) c (suc k) e =
     rw (← (c .0))
-    (rungs-last (b .spread) (b .bottom) (width b) (held (d ∷ bs)) (b .top) (sym (c .1 .divides)) ∙
+    (rungs-last (b .spread) (b .bottom) (width b) (bandPrices (d ∷ bs)) (b .top) (sym (c .1 .divides)) ∙
     last-top (b .top) (d ∷ bs) (c .2) k (suc-inj e))
 
 -- past the last place the list has nothing
-pub past-last : (a : ℕ) (t : List Band) → Chain a t → (m j : ℕ) → j ≡ placesBelow (length t) t + suc m → priceAt j (a ∷ held t) ≡ Nothing
-unfolding held placesBelow priceAt
+pub past-last : (a : ℕ) (t : List Band) → Chain a t → (m j : ℕ) → j ≡ placesBelow (length t) t + suc m → priceAt j (a ∷ bandPrices t) ≡ Nothing
+unfolding bandPrices placesBelow priceAt
 past-last a [] c m j e = let i : j ≡ suc m = omega arith in rw i
 past-last a (b ∷ bs) c m j e =
     rw (← (c .0))
-    (rungs-past (b .spread) (b .bottom) (width b) (held bs) (b .top) (placesBelow (length bs) bs + suc m) j (sym (c .1 .divides)) (omega arith) ∙
+    (rungs-past (b .spread) (b .bottom) (width b) (bandPrices bs) (b .top) (placesBelow (length bs) bs + suc m) j (sym (c .1 .divides)) (omega arith) ∙
     past-last (b .top) bs (c .2) m (placesBelow (length bs) bs + suc m) refl)
 
 -- places of a band lie as many above the first as the bands before it have spreads: a place is at most its price

@@ -12,7 +12,7 @@ use lib.Seq.{drop-cons}
 use borrow.Author.Tests.{ltb-true, ltb-false, lt-ltb, le-ltb}
 use Rattle.ladder.specs.declared.Band.{Band}
 use Rattle.ladder.specs.Bands.{noBand}
-use Rattle.ladder.specs.Ladder.{held}
+use Rattle.ladder.specs.Ladder.{bandPrices}
 use Rattle.ladder.specs.Places.{lastAfter}
 use Rattle.ladder.specs.Arithmetic.{bandsBelow}
 use Rattle.ladder.proofs.Tables.Chain.{Chain, bandAt, last-top}
@@ -60,13 +60,13 @@ lands-over scale y a (b ∷ bs) c h = go (ltb (scale * b .top) y) refl h (lands-
     go false e k rest = inl (c .0)
 
 -- a threshold that is not above the last price lands on the table
-pub lands-inside : (scale y a : ℕ) (t : List Band) → Chain a t → 0 < length t → y ≤ scale * lastAfter a (held t) → bandsBelow scale y t < length t
+pub lands-inside : (scale y a : ℕ) (t : List Band) → Chain a t → 0 < length t → y ≤ scale * lastAfter a (bandPrices t) → bandsBelow scale y t < length t
 unfolding bandsBelow
 lands-inside scale y a [] c s h = absurd (not-suc-le-zero s)
 lands-inside scale y a (b ∷ []) c s h = go (ltb (scale * b .top) y) refl
   where
     go : (v : Bool) → ltb (scale * b .top) y ≡ v → cond v 1 0 < 1
-    go true e = let l : lastAfter a (held (b ∷ [])) ≡ b .top = last-top a (b ∷ []) c 0 refl in
+    go true e = let l : lastAfter a (bandPrices (b ∷ [])) ≡ b .top = last-top a (b ∷ []) c 0 refl in
         let m : y ≤ scale * b .top = rw l at h in
         let u : scale * b .top < y = ltb-true (scale * b .top) y e in
         omega arith
@@ -74,7 +74,7 @@ lands-inside scale y a (b ∷ []) c s h = go (ltb (scale * b .top) y) refl
 lands-inside scale y a (b ∷ d ∷ bs) c s h =
     go (ltb (scale * b .top) y) (lands-inside scale y (b .top) (d ∷ bs) (c .2) (omega arith) (rw (same-last) at h))
   where
-    same-last : lastAfter a (held (b ∷ d ∷ bs)) ≡ lastAfter (b .top) (held (d ∷ bs))
+    same-last : lastAfter a (bandPrices (b ∷ d ∷ bs)) ≡ lastAfter (b .top) (bandPrices (d ∷ bs))
     same-last = last-top a (b ∷ d ∷ bs) c (suc (length bs)) refl ∙ sym (last-top (b .top) (d ∷ bs) (c .2) (length bs) refl)
 
     go : (v : Bool) → bandsBelow scale y (d ∷ bs) < suc (length bs) → cond v (suc (bandsBelow scale y (d ∷ bs))) 0 < suc (suc (length bs))

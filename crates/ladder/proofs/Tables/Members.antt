@@ -11,7 +11,7 @@ use lib.Dec.{T, eqb, ltb, leb, eqb→eq, ltb→lt, lt→ltb, leb→le, le→leb,
 use Rattle.ladder.specs.declared.Band.{Band}
 use Rattle.ladder.specs.declared.Found.the-variants.{Price}
 use Rattle.ladder.specs.Bands.{wellFormed}
-use Rattle.ladder.specs.Ladder.{width, rungs, held, ladder, inBand, inSomeBand, isLadderPrice}
+use Rattle.ladder.specs.Ladder.{width, rungs, bandPrices, ladder, inBand, inSomeBand, isLadderPrice}
 use Rattle.ladder.specs.Search.{holds}
 use Rattle.ladder.specs.Places.{priceAt}
 use Rattle.ladder.proofs.Lists.Truth.{and-left, and-right, and-both, or-left, or-right, or-cases, same}
@@ -75,24 +75,24 @@ module _ (b : Band) (w : Whole b) (r : List ℕ) (p : ℕ) where
       wide : (width b ≡ 0) ⊎ (0 < width b) → 0 < width b
       wide = ⊎-elim (λ z. let u : 0 * b .spread + b .bottom ≡ b .top = rw z at (w .divides) in omega (arith, w .rises)) (λ h. h)
 
-members-in : (a : ℕ) (t : List Band) → Chain a t → (p : ℕ) → T (holds p (a ∷ held t)) → (p ≡ a) ⊎ T (inSomeBand p t)
-unfolding held inSomeBand
+members-in : (a : ℕ) (t : List Band) → Chain a t → (p : ℕ) → T (holds p (a ∷ bandPrices t)) → (p ≡ a) ⊎ T (inSomeBand p t)
+unfolding bandPrices inSomeBand
 members-in a [] c p h = held-cases a [] p h (λ e. inl e) (λ m. held-none p m)
 members-in a (b ∷ bs) c p h =
     ⊎-elim (λ i. inl (i ∙ c .0))
     (⊎-elim (λ t. inr (or-left (inBand p b) (inSomeBand p bs) t))
     (λ m.
-    ⊎-elim (λ i. inr (or-left (inBand p b) (inSomeBand p bs) (top-in-band b (c .1) (held bs) p i)))
+    ⊎-elim (λ i. inr (or-left (inBand p b) (inSomeBand p bs) (top-in-band b (c .1) (bandPrices bs) p i)))
     (λ s. inr (or-right (inBand p b) (inSomeBand p bs) s))
     (members-in (b .top) bs (c .2) p m)))
-    (leaves b (c .1) (held bs) p (rw (← (c .0)) at h))
+    (leaves b (c .1) (bandPrices bs) p (rw (← (c .0)) at h))
 
-in-members : (a : ℕ) (t : List Band) → Chain a t → (p : ℕ) → T (inSomeBand p t) → T (holds p (a ∷ held t))
-unfolding held inSomeBand
+in-members : (a : ℕ) (t : List Band) → Chain a t → (p : ℕ) → T (inSomeBand p t) → T (holds p (a ∷ bandPrices t))
+unfolding bandPrices inSomeBand
 in-members a [] c p h = absurd h
 in-members a (b ∷ bs) c p h =
     rw (← (c .0))
-    (⊎-elim (λ t. enters b (c .1) (held bs) p t) (λ s. passes b (c .1) (held bs) p (in-members (b .top) bs (c .2) p s))
+    (⊎-elim (λ t. enters b (c .1) (bandPrices bs) p t) (λ s. passes b (c .1) (bandPrices bs) p (in-members (b .top) bs (c .2) p s))
     (or-cases (inBand p b) (inSomeBand p bs) h))
 
 pub the-members : (t : List Band) → T (wellFormed t) → (p : ℕ) → holds p (ladder t) ≡ isLadderPrice p t
@@ -100,10 +100,10 @@ unfolding wellFormed ladder isLadderPrice
 the-members [] wf p = absurd wf
 the-members (b ∷ bs) wf p =
     let c = table-facts (b ∷ bs) wf .chain in
-    same (holds p (b .bottom ∷ held (b ∷ bs))) (eqb p (b .bottom) || inSomeBand p (b ∷ bs))
+    same (holds p (b .bottom ∷ bandPrices (b ∷ bs))) (eqb p (b .bottom) || inSomeBand p (b ∷ bs))
     (λ h.
     ⊎-elim (λ e. or-left (eqb p (b .bottom)) (inSomeBand p (b ∷ bs)) (rw e (eqb-refl (b .bottom))))
     (λ s. or-right (eqb p (b .bottom)) (inSomeBand p (b ∷ bs)) s) (members-in (b .bottom) (b ∷ bs) c p h))
     (λ h.
-    ⊎-elim (λ e. rw (eqb→eq p (b .bottom) e) (held-first (b .bottom) (held (b ∷ bs))))
+    ⊎-elim (λ e. rw (eqb→eq p (b .bottom) e) (held-first (b .bottom) (bandPrices (b ∷ bs))))
     (λ s. in-members (b .bottom) (b ∷ bs) c p s) (or-cases (eqb p (b .bottom)) (inSomeBand p (b ∷ bs)) h))

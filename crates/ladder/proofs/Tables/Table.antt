@@ -9,7 +9,7 @@ use lib.ListN.{length}
 use Rattle.ladder.specs.declared.Band.{Band}
 use Rattle.ladder.specs.declared.Found.the-variants.{Price}
 use Rattle.ladder.specs.Bands.{chained, wellFormed}
-use Rattle.ladder.specs.Ladder.{width, held, ladder}
+use Rattle.ladder.specs.Ladder.{width, bandPrices, ladder}
 use Rattle.ladder.specs.Search.{holds}
 use Rattle.ladder.specs.Arithmetic.{placesBelow}
 use Rattle.ladder.specs.Places.{priceAt, lastAfter, firstPrice, lastPrice}
@@ -27,7 +27,7 @@ pub record Facts (t : List Band) : Type 0 where
   pub chain : Chain (start t) t
   pub some : 0 < length t
   pub positive : 0 < start t
-  pub list : ladder t ≡ start t ∷ held t
+  pub list : ladder t ≡ start t ∷ bandPrices t
 
 pub table-facts : (t : List Band) → T (wellFormed t) → Facts t
 unfolding wellFormed ladder
@@ -71,12 +71,12 @@ module _ (t : List Band) (wf : T (wellFormed t)) where
   unfolding lastAfter
   last-is-top k e = let f = table-facts t wf in rw (f .list) (last-top (start t) t (f .chain) k (omega arith))
 
-  pub last-listed : lastPrice (ladder t) ≡ lastAfter (start t) (held t)
+  pub last-listed : lastPrice (ladder t) ≡ lastAfter (start t) (bandPrices t)
   unfolding lastAfter
   last-listed = rw (table-facts t wf .list)
 
   pub start-held : T (holds (start t) (ladder t))
-  start-held = rw (table-facts t wf .list) (held-first (start t) (held t))
+  start-held = rw (table-facts t wf .list) (held-first (start t) (bandPrices t))
 
   module _ (k : ℕ) (h : k < length t) where
     -- entry i of band k, at the place of its bottom and i

@@ -13,10 +13,10 @@ use Rattle.ladder.proofs.places.places_below.Tie as tie
 
 -- the places of the bands passed
 abbrev Inv-loop : tie.InvT-loop
-Inv-loop table band places₀ k₀ places k = (k ≤ band) × (places ≡ placesBelow k (bandsOf table))
+Inv-loop table index places₀ k₀ places k = (k ≤ index) × (places ≡ placesBelow k (bandsOf table))
 
 abbrev μ-loop : tie.MeasureT-loop
-μ-loop table band places₀ k₀ places k = band - k
+μ-loop table index places₀ k₀ places k = index - k
 
 loop-holds : tie.Need-loop-holds Inv-loop μ-loop
 unfolding placesBelow
@@ -25,8 +25,8 @@ loop-holds c = (omega arith, refl)
 band-at-requires : tie.Need-band-at-requires Inv-loop μ-loop
 band-at-requires c κs = search needs
 
-spreads-of-requires : tie.Need-spreads-of-requires Inv-loop μ-loop
-spreads-of-requires c κs =
+width-of-requires : tie.Need-width-of-requires Inv-loop μ-loop
+width-of-requires c κs =
     let s = c .before .before .before .before in
     let t = bandsOf (now (s .args .table)) in
     let b = c .band-at in
@@ -38,7 +38,7 @@ add-places c =
     let s = c .before .before .before .before .before in
     let t = bandsOf (now (s .args .table)) in
     let b = c .before .band-at in
-    omega (arith, places-fit t (s .pre .0) (c .before .before .before .loop .k) (omega arith) (b .result) (b .ensures), c .spreads-of .ensures)
+    omega (arith, places-fit t (s .pre .0) (c .before .before .before .loop .k) (omega arith) (b .result) (b .ensures), c .width-of .ensures)
 
 add-k : tie.Need-add-k Inv-loop μ-loop
 add-k c = search needs
@@ -51,12 +51,12 @@ loop-again c =
     let s = c .before .before .before .before .before in
     let t = bandsOf (now (s .args .table)) in
     let b = c .before .band-at in
-    (omega arith, omega (arith, places-more t (s .pre .0) (c .before .before .before .loop .k) (omega arith) (b .result) (b .ensures), c .spreads-of .ensures))
+    (omega arith, omega (arith, places-more t (s .pre .0) (c .before .before .before .loop .k) (omega arith) (b .result) (b .ensures), c .width-of .ensures))
 
 returns : tie.Need-returns Inv-loop μ-loop
 returns c =
-    let all : c .before .loop .k ≡ c .before .before .before .args .band = omega arith in
+    let all : c .before .loop .k ≡ c .before .before .before .args .index = omega arith in
     rw all at (c .before .loop .inv .1)
 
 pub places-below-spec : {M : Type 1} → statement M
-places-below-spec = tie.close (tie.spec Inv-loop μ-loop loop-holds band-at-requires spreads-of-requires add-places add-k loop-less loop-again returns)
+places-below-spec = tie.close (tie.spec Inv-loop μ-loop loop-holds band-at-requires width-of-requires add-places add-k loop-less loop-again returns)

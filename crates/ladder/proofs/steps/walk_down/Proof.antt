@@ -15,12 +15,12 @@ use Rattle.ladder.proofs.steps.walk_down.Tie as tie
 
 -- the walk stands in band k, and the spreads that are left lead where all n lead
 abbrev Inv-loop : tie.InvT-loop
-Inv-loop table band price n k₀ at₀ left₀ k at left =
+Inv-loop table index price n k₀ at₀ left₀ k at left =
     StandsIn (bandsOf table) k at × (times left (spreadDown (pricesOf table)) at ≡ times n (spreadDown (pricesOf table)) price)
 
 -- the bands that are left
 abbrev μ-loop : tie.MeasureT-loop
-μ-loop table band price n k₀ at₀ left₀ k at left = k
+μ-loop table index price n k₀ at₀ left₀ k at left = k
 
 loop-holds : tie.Need-loop-holds Inv-loop μ-loop
 loop-holds c = search needs

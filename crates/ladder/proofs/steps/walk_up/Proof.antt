@@ -16,12 +16,12 @@ use Rattle.ladder.proofs.steps.walk_up.Tie as tie
 
 -- the walk stands in band k, and the spreads that are left lead where all n lead
 abbrev Inv-loop : tie.InvT-loop
-Inv-loop table band price n last k₀ at₀ left₀ k at left =
+Inv-loop table index price n last k₀ at₀ left₀ k at left =
     StandsIn (bandsOf table) k at × (times left (spreadUp (pricesOf table)) at ≡ times n (spreadUp (pricesOf table)) price)
 
 -- the bands that are left
 abbrev μ-loop : tie.MeasureT-loop
-μ-loop table band price n last k₀ at₀ left₀ k at left = length (bandsOf table) - k
+μ-loop table index price n last k₀ at₀ left₀ k at left = length (bandsOf table) - k
 
 count-requires : tie.Need-count-requires Inv-loop μ-loop
 count-requires c κs = search needs

@@ -23,11 +23,10 @@ returns : tie.Need-returns
 returns c =
     let s = c .before .before .before .before in
     let l = pricesOf (now (s .args .table)) in
-    let spreads = times 24 (spreadDown l) (s .args .reference) in
-    rw (unanswered (s .args .reference) l spreads (sym (c .before .before .down .ensures) ∙ c .enum-told .given .1))
+    rw (unanswered (s .args .reference) l _ (sym (c .before .before .down .ensures) ∙ c .enum-told .given .1))
 
-lowest-requires : tie.Need-lowest-requires
-lowest-requires c κs = search needs
+rounded-up-requires : tie.Need-rounded-up-requires
+rounded-up-requires c κs = search needs
 
 smaller-requires : tie.Need-smaller-requires
 smaller-requires c κs = search needs
@@ -39,7 +38,7 @@ returns-2 c =
     let spreads = times 24 (spreadDown l) (s .args .reference) in
     let found = c .before .before .before .found .given in
     let r = answered (s .args .reference) l spreads (found .0 .0) (sym (c .before .before .before .before .before .down .ensures) ∙ found .1) in
-    rw (r .on) (ap Price (c .smaller .ensures ∙ ap₂ min (r .is) (c .before .lowest .ensures)))
+    rw (r .on) (ap Price (c .smaller .ensures ∙ ap₂ min (r .is) (c .before .rounded-up .ensures)))
 
 pub lower-spec : {M : Type 1} → statement M
-lower-spec = tie.close (tie.spec down-requires enum-known-found enum-told returns lowest-requires smaller-requires returns-2)
+lower-spec = tie.close (tie.spec down-requires enum-known-found enum-told returns rounded-up-requires smaller-requires returns-2)

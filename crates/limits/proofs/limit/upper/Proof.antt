@@ -23,11 +23,10 @@ returns : tie.Need-returns
 returns c =
     let s = c .before .before .before .before in
     let l = pricesOf (now (s .args .table)) in
-    let spreads = times 24 (spreadUp l) (s .args .reference) in
-    rw (unanswered (s .args .reference) l spreads (sym (c .before .before .up .ensures) ∙ c .enum-told .given .1))
+    rw (unanswered (s .args .reference) l _ (sym (c .before .before .up .ensures) ∙ c .enum-told .given .1))
 
-highest-requires : tie.Need-highest-requires
-highest-requires c κs = search needs
+rounded-down-requires : tie.Need-rounded-down-requires
+rounded-down-requires c κs = search needs
 
 larger-requires : tie.Need-larger-requires
 larger-requires c κs = search needs
@@ -39,7 +38,7 @@ returns-2 c =
     let spreads = times 24 (spreadUp l) (s .args .reference) in
     let found = c .before .before .before .found .given in
     let r = answered (s .args .reference) l spreads (found .0 .0) (sym (c .before .before .before .before .before .up .ensures) ∙ found .1) in
-    rw (r .on) (ap Price (c .larger .ensures ∙ ap₂ max (r .is) (c .before .highest .ensures)))
+    rw (r .on) (ap Price (c .larger .ensures ∙ ap₂ max (r .is) (c .before .rounded-down .ensures)))
 
 pub upper-spec : {M : Type 1} → statement M
-upper-spec = tie.close (tie.spec up-requires enum-known-found enum-told returns highest-requires larger-requires returns-2)
+upper-spec = tie.close (tie.spec up-requires enum-known-found enum-told returns rounded-down-requires larger-requires returns-2)

@@ -6,8 +6,8 @@ use borrow.Author.Needs.{needs}
 use Rattle.ladder.specs.Search.{first, orElse, atLeast}
 use Rattle.ladder.specs.Places.{lastPrice}
 use Rattle.ladder.specs.Layout.{pricesOf}
-use Rattle.limits.proofs.percent.lowest.Statement.{statement}
-use Rattle.limits.proofs.percent.lowest.Tie as tie
+use Rattle.limits.proofs.percent.rounded_up.Statement.{statement}
+use Rattle.limits.proofs.percent.rounded_up.Tie as tie
 
 product-requires : tie.Need-product-requires
 product-requires c κs = search needs
@@ -42,5 +42,5 @@ returns-2 c =
     let l = pricesOf (now (c .before .before .before .before .before .before .args .table)) in
     c .last-price .ensures ∙ ap (orElse (lastPrice l)) (sym (c .before .enum-told .given .1) ∙ found (c .before .before .before))
 
-pub lowest-spec : {M : Type 1} → statement M
-lowest-spec = tie.close (tie.spec product-requires at-least-requires enum-known-found enum-told last-price-requires returns returns-2)
+pub rounded-up-spec : {M : Type 1} → statement M
+rounded-up-spec = tie.close (tie.spec product-requires at-least-requires enum-known-found enum-told last-price-requires returns returns-2)

@@ -6,8 +6,8 @@ use borrow.Author.Needs.{needs}
 use Rattle.ladder.specs.Search.{latest, orElse, atMost}
 use Rattle.ladder.specs.Places.{firstPrice}
 use Rattle.ladder.specs.Layout.{pricesOf}
-use Rattle.limits.proofs.percent.highest.Statement.{statement}
-use Rattle.limits.proofs.percent.highest.Tie as tie
+use Rattle.limits.proofs.percent.rounded_down.Statement.{statement}
+use Rattle.limits.proofs.percent.rounded_down.Tie as tie
 
 product-requires : tie.Need-product-requires
 product-requires c κs = search needs
@@ -42,5 +42,5 @@ returns-2 c =
     let l = pricesOf (now (c .before .before .before .before .before .before .args .table)) in
     c .first-price .ensures ∙ ap (orElse (firstPrice l)) (sym (c .before .enum-told .given .1) ∙ found (c .before .before .before))
 
-pub highest-spec : {M : Type 1} → statement M
-highest-spec = tie.close (tie.spec product-requires at-most-requires enum-known-found enum-told first-price-requires returns returns-2)
+pub rounded-down-spec : {M : Type 1} → statement M
+rounded-down-spec = tie.close (tie.spec product-requires at-most-requires enum-known-found enum-told first-price-requires returns returns-2)
