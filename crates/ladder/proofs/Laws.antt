@@ -15,7 +15,9 @@ use Rattle.ladder.specs.Ladder.{rungs, bandPrices, ladder, isLadderPrice
 use Rattle.ladder.specs.Search.{holds, first, latestAfter, latest, atLeast, atMost}
 use Rattle.ladder.specs.Places.{priceAt, placeOf, lastAfter}
 use Rattle.ladder.specs.Spreads.{spreadUp, spreadDown, times, ifHeld}
-use Rattle.ladder.specs.Laws.{ThePhase1Table, TheLadder, LadderRises, EndsAreTheTables, PlacesAreInverse, SmallestAbove, SpreadUpIsNext, LargestBelow, SpreadDownIsPrevious, NThenM, GoingByPlaces, UpThenDown, SmallestAtLeast, FirstIsSmallest, LargestAtMost, LatestIsLargest, SpreadsKeepOrder, RoundingKeepsOrder}
+use Rattle.ladder.specs.Laws.{ThePhase1Table, TheLadder, LadderRises, EndsAreTheTables, PlacesAreInverse, SmallestAbove}
+use Rattle.ladder.specs.Laws.{SpreadUpIsNext, LargestBelow, SpreadDownIsPrevious, NThenM, GoingByPlaces, UpThenDown, SmallestAtLeast}
+use Rattle.ladder.specs.Laws.{FirstIsSmallest, LargestAtMost, LatestIsLargest, SpreadsKeepOrder, RoundingKeepsOrder}
 use Rattle.ladder.proofs.Lists.Truth.{passed, true-of}
 use Rattle.ladder.proofs.Lists.Entries.{at-place, past, entry-held, held-entry, entries-rise, place-of-entry, place-off, entry-of-place}
 use Rattle.ladder.proofs.Lists.Extremes.{Best, None, Result, Least, Greatest, first-result, latest-result}
@@ -24,7 +26,8 @@ use Rattle.ladder.proofs.Lists.Going.{ups-entry, downs-entry}
 use Rattle.ladder.proofs.Answers.{answered}
 use Rattle.ladder.proofs.Tables.Table.{table-facts, first-is-start, last-is-top, ladder-rises as rising}
 use Rattle.ladder.proofs.Tables.Members.{the-members}
-use Rattle.ladder.proofs.Lists.Order.{up-by, down-by, up-on, down-on, times-on, spreads-up-order, spreads-down-order, at-least-order, at-most-order}
+use Rattle.ladder.proofs.Lists.Order.{up-by, down-by, up-on, down-on, times-on, spreads-up-order, spreads-down-order}
+use Rattle.ladder.proofs.Lists.Order.{at-least-order, at-most-order}
 
 -- tested once, by computation
 pub the-phase1-table : ThePhase1Table

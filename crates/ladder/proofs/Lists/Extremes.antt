@@ -43,7 +43,8 @@ result-none R test l (Price p) r n = absurd (n p (r .on) (r .passes))
 result-none R test l Nothing r n = refl
 
 -- a price in front that does not pass changes nothing
-past : (R : ℕ → ℕ → Type 0) (test : ℕ → Bool) (a : ℕ) (l : List ℕ) (f : Found) → (T (test a) → ⊥) → Result R test l f → Result R test (a ∷ l) f
+past : (R : ℕ → ℕ → Type 0) (test : ℕ → Bool) (a : ℕ) (l : List ℕ) (f : Found) → (T (test a) → ⊥) → Result R test l f →
+    Result R test (a ∷ l) f
 past R test a l (Price q) fails r =
     record {
       on = held-rest a l q (r .on);

@@ -58,7 +58,8 @@ down-order l r p q h k m = ⊎-elim (λ e. rw e (le-refl (spreadDown l q))) (λ 
 
 -- ---- n spreads
 
-pub times-on : (l : List ℕ) (step : ℕ → ℕ) → ((p : ℕ) → T (holds p l) → T (holds (step p) l)) → (n p : ℕ) → T (holds p l) → T (holds (times n step p) l)
+pub times-on : (l : List ℕ) (step : ℕ → ℕ) → ((p : ℕ) → T (holds p l) → T (holds (step p) l)) → (n p : ℕ) → T (holds p l) →
+    T (holds (times n step p) l)
 unfolding times
 times-on l step on zero p h = h
 times-on l step on (suc n) p h = times-on l step on n (step p) (on p h)
@@ -70,10 +71,12 @@ unfolding times
 times-order l step on order zero p q h k m = m
 times-order l step on order (suc n) p q h k m = times-order l step on order n (step p) (step q) (on p h) (on q k) (order p q h k m)
 
-pub spreads-up-order : (l : List ℕ) → Rising l → (n p q : ℕ) → T (holds p l) → T (holds q l) → p ≤ q → times n (spreadUp l) p ≤ times n (spreadUp l) q
+pub spreads-up-order : (l : List ℕ) → Rising l → (n p q : ℕ) → T (holds p l) → T (holds q l) → p ≤ q →
+    times n (spreadUp l) p ≤ times n (spreadUp l) q
 spreads-up-order l r = times-order l (spreadUp l) (up-on l r) (up-order l r)
 
-pub spreads-down-order : (l : List ℕ) → Rising l → (n p q : ℕ) → T (holds p l) → T (holds q l) → p ≤ q → times n (spreadDown l) p ≤ times n (spreadDown l) q
+pub spreads-down-order : (l : List ℕ) → Rising l → (n p q : ℕ) → T (holds p l) → T (holds q l) → p ≤ q →
+    times n (spreadDown l) p ≤ times n (spreadDown l) q
 spreads-down-order l r = times-order l (spreadDown l) (down-on l r) (down-order l r)
 
 -- ---- rounding: a test that passes more finds something as extreme, where `end` stands in for nothing

@@ -65,7 +65,8 @@ rungs-entry s a zero r (suc i) h = absurd (not-suc-le-zero h)
 rungs-entry s a (suc w) r (suc i) h = rungs-entry s (a + s) w r i (le-of-suc-le-suc h) ∙ ap Price (omega arith)
 
 -- past a band the list goes on from its top
-pub rungs-past : (s a w : ℕ) (r : List ℕ) (top m k : ℕ) → top ≡ w * s + a → k ≡ w + m → priceAt k (a ∷ (rungs s a w ++ r)) ≡ priceAt m (top ∷ r)
+pub rungs-past : (s a w : ℕ) (r : List ℕ) (top m k : ℕ) → top ≡ w * s + a → k ≡ w + m →
+    priceAt k (a ∷ (rungs s a w ++ r)) ≡ priceAt m (top ∷ r)
 unfolding rungs priceAt
 rungs-past s a zero r top m k e f =
     let i : top ≡ a = omega arith in
@@ -125,7 +126,8 @@ last-top a (b ∷ d ∷ bs) c (suc k) e =
     last-top (b .top) (d ∷ bs) (c .2) k (suc-inj e))
 
 -- past the last place the list has nothing
-pub past-last : (a : ℕ) (t : List Band) → Chain a t → (m j : ℕ) → j ≡ placesBelow (length t) t + suc m → priceAt j (a ∷ bandPrices t) ≡ Nothing
+pub past-last : (a : ℕ) (t : List Band) → Chain a t → (m j : ℕ) → j ≡ placesBelow (length t) t + suc m →
+    priceAt j (a ∷ bandPrices t) ≡ Nothing
 unfolding bandPrices placesBelow priceAt
 past-last a [] c m j e = let i : j ≡ suc m = omega arith in rw i
 past-last a (b ∷ bs) c m j e =

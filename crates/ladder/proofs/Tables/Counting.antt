@@ -38,7 +38,8 @@ module _ (t : List Band) (wf : T (wellFormed t)) (k : ℕ) (h : k < length t) (b
   places-past i m = lt-of-mul-lt-mul-right (b .spread) (omega (arith, w .divides))
 
   -- the price at a place of the band, and past the last band
-  pub price-here : (i : ℕ) → i * b .spread ≤ b .top - b .bottom → Price (b .bottom + i * b .spread) ≡ priceAt (placesBelow k t + i) (ladder t)
+  pub price-here : (i : ℕ) → i * b .spread ≤ b .top - b .bottom →
+      Price (b .bottom + i * b .spread) ≡ priceAt (placesBelow k t + i) (ladder t)
   price-here i m =
       let within : i ≤ width b = le-of-mul-le-mul-right (omega (arith, w .divides, w .rises)) (w .spreads) in
       let same : i * b .spread + b .bottom ≡ b .bottom + i * b .spread = omega arith in
@@ -74,5 +75,6 @@ module _ (t : List Band) (wf : T (wellFormed t)) (k : ℕ) (h : k < length t) (b
             let zero : 0 + (placesBelow k t + x .i) ≡ placesBelow k t + x .i = omega arith in
             rw index
             (sym
-            (place-of-entry (ladder t) (ladder-rises t wf) 0 (placesBelow k t + x .i) p (band-entry-at t wf k h b f (x .i) (x .within) ∙ ap Price (sym (x .is))) ∙
+            (place-of-entry (ladder t) (ladder-rises t wf) 0 (placesBelow k t + x .i) p
+            (band-entry-at t wf k h b f (x .i) (x .within) ∙ ap Price (sym (x .is))) ∙
             ap At zero))

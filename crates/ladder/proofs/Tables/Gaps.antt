@@ -68,7 +68,9 @@ module _ (t : List Band) (wf : T (wellFormed t)) (scale y : ℕ) (low : scale * 
       pub spreads-fit : spreads ≤ spreads * b .spread
       spreads-fit = le-mul-of-pos-right spreads (w .spreads)
 
-      pub is-between : Between scale y (ladder t) (record { below = b .bottom + spreads * b .spread; above = b .bottom + spreads * b .spread + b .spread })
+      pub is-between :
+          Between scale y (ladder t)
+          (record { below = b .bottom + spreads * b .spread; above = b .bottom + spreads * b .spread + b .spread })
       is-between =
           let n = band-next t wf k inside b f spreads less in
           let up : spreads * b .spread + b .bottom ≡ b .bottom + spreads * b .spread = omega arith in
@@ -78,5 +80,7 @@ module _ (t : List Band) (wf : T (wellFormed t)) (scale y : ℕ) (low : scale * 
           let back : y - 1 + 1 ≡ y = omega arith in
           record {
             is-below = between-below (ladder t) (ladder-rises t wf) _ _ n scale (y - 1) under above ∙ ap Price up;
-            is-above = ap (λ z. first (atLeast scale z) (ladder t)) (sym back) ∙ (between-above (ladder t) (ladder-rises t wf) _ _ n scale (y - 1) under above ∙ ap Price over);
+            is-above =
+                ap (λ z. first (atLeast scale z) (ladder t)) (sym back) ∙
+                (between-above (ladder t) (ladder-rises t wf) _ _ n scale (y - 1) under above ∙ ap Price over);
           }

@@ -54,13 +54,16 @@ lands-over scale y a [] c h = absurd (not-suc-le-zero h)
 lands-over scale y a (b ∷ bs) c h = go (ltb (scale * b .top) y) refl h (lands-over scale y (b .top) bs (c .2))
   where
     go : (v : Bool) → ltb (scale * b .top) y ≡ v → cond v (suc (bandsBelow scale y bs)) 0 < suc (length bs) →
-        (bandsBelow scale y bs < length bs → (bandAt bs (bandsBelow scale y bs) .bottom ≡ b .top) ⊎ (scale * bandAt bs (bandsBelow scale y bs) .bottom < y)) →
-        (bandAt (b ∷ bs) (cond v (suc (bandsBelow scale y bs)) 0) .bottom ≡ a) ⊎ (scale * bandAt (b ∷ bs) (cond v (suc (bandsBelow scale y bs)) 0) .bottom < y)
+        (bandsBelow scale y bs < length bs →
+        (bandAt bs (bandsBelow scale y bs) .bottom ≡ b .top) ⊎ (scale * bandAt bs (bandsBelow scale y bs) .bottom < y)) →
+        (bandAt (b ∷ bs) (cond v (suc (bandsBelow scale y bs)) 0) .bottom ≡ a) ⊎
+        (scale * bandAt (b ∷ bs) (cond v (suc (bandsBelow scale y bs)) 0) .bottom < y)
     go true e k rest = ⊎-elim (λ i. inr (rw i (ltb-true (scale * b .top) y e))) inr (rest (le-of-suc-le-suc k))
     go false e k rest = inl (c .0)
 
 -- a threshold that is not above the last price lands on the table
-pub lands-inside : (scale y a : ℕ) (t : List Band) → Chain a t → 0 < length t → y ≤ scale * lastAfter a (bandPrices t) → bandsBelow scale y t < length t
+pub lands-inside : (scale y a : ℕ) (t : List Band) → Chain a t → 0 < length t → y ≤ scale * lastAfter a (bandPrices t) →
+    bandsBelow scale y t < length t
 unfolding bandsBelow
 lands-inside scale y a [] c s h = absurd (not-suc-le-zero s)
 lands-inside scale y a (b ∷ []) c s h = go (ltb (scale * b .top) y) refl

@@ -45,7 +45,8 @@ bands-set (x ∷ y ∷ z ∷ l) (suc k) j a b s e h =
     rw i (ap (λ r. band x y z ∷ r) (bands-set l k (3 * k) a b s refl (le-of-suc-le-suc h)))
 
 -- a table that is laid out up to band k is, with the numbers of band k, laid out up to the next
-pub laid-more : (l : List ℕ) (t : List Band) (k : ℕ) → k < length t → k < length (bandsOf l) → take k (bandsOf l) ≡ take k t → (b : Band) → b ≡ getD t k noBand →
+pub laid-more : (l : List ℕ) (t : List Band) (k : ℕ) → k < length t → k < length (bandsOf l) → take k (bandsOf l) ≡ take k t → (b : Band) →
+    b ≡ getD t k noBand →
     take (k + 1) (bandsOf (set (set (set l (3 * k) (b .bottom)) (3 * k + 1) (b .top)) (3 * k + 2) (b .spread))) ≡ take (k + 1) t
 laid-more l t k h m e b f =
     rw (add-one k, add-one (3 * k), add-two (3 * k), bands-set l k (3 * k) (b .bottom) (b .top) (b .spread) refl m)

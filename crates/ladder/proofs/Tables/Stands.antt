@@ -21,7 +21,8 @@ use Rattle.ladder.specs.Arithmetic.{StandsIn}
 use Rattle.ladder.proofs.Lists.Truth.{zero-is-one, passed, failed}
 use Rattle.ladder.proofs.Lists.Rising.{over-first, under-last}
 use Rattle.ladder.proofs.Tables.Chain.{Whole, bandAt}
-use Rattle.ladder.proofs.Tables.Table.{Index, index-of, table-facts, start, ladder-rises, first-is-start, last-listed, entry-on, entries-next, is-whole}
+use Rattle.ladder.proofs.Tables.Table.{Index, index-of, table-facts, start, ladder-rises, first-is-start, last-listed, entry-on}
+use Rattle.ladder.proofs.Tables.Table.{entries-next, is-whole}
 use Rattle.ladder.proofs.Tables.Landing.{lands-under, lands-over, lands-inside}
 
 module _ (t : List Band) (wf : T (wellFormed t)) (p : ℕ) where
@@ -44,7 +45,8 @@ module _ (t : List Band) (wf : T (wellFormed t)) (p : ℕ) where
         (lands-over 1 p (start t) t (table-facts t wf .chain) held-inside)
 
     -- between two entries of a band no price is on the ladder
-    pub held-multiple : (k : ℕ) → k < length t → bandAt t k .bottom ≤ p → p ≤ bandAt t k .top → (p - bandAt t k .bottom) % bandAt t k .spread ≡ 0
+    pub held-multiple : (k : ℕ) → k < length t → bandAt t k .bottom ≤ p → p ≤ bandAt t k .top →
+        (p - bandAt t k .bottom) % bandAt t k .spread ≡ 0
     held-multiple k h low high = ⊎-elim (λ e. e) (λ r. absurd (between r)) (eq-zero-or-pos ((p - b .bottom) % b .spread))
       where
         b : Band

@@ -1,4 +1,4 @@
--- Where prices and thresholds stand on a well-formed table, and what the plain count does there.
+-- What a well-formed table is, as facts; and the prices of its bands on the ladder.
 use mathlib.Core.Path.{_≡_, refl}
 use Prim.Native.Nat.{ℕ, suc, _+_, _-_, _*_, _/_, _%_, _≤_, _<_}
 use native.Mathlib.Nat.{add-suc, div-add-mod', le-of-mul-le-mul-right}
@@ -80,14 +80,16 @@ module _ (t : List Band) (wf : T (wellFormed t)) where
 
   module _ (k : ℕ) (h : k < length t) where
     -- entry i of band k, at the place of its bottom and i
-    pub entry : (i : ℕ) → i ≤ width (bandAt t k) → priceAt (placesBelow k t + i) (ladder t) ≡ Price (i * bandAt t k .spread + bandAt t k .bottom)
+    pub entry : (i : ℕ) → i ≤ width (bandAt t k) →
+        priceAt (placesBelow k t + i) (ladder t) ≡ Price (i * bandAt t k .spread + bandAt t k .bottom)
     entry i w = let f = table-facts t wf in rw (f .list) (band-entry (start t) t (f .chain) k i (placesBelow k t + i) h w refl)
 
     pub entry-on : (i : ℕ) → i ≤ width (bandAt t k) → T (holds (i * bandAt t k .spread + bandAt t k .bottom) (ladder t))
     entry-on i w = entry-held (ladder t) (placesBelow k t + i) _ (entry i w)
 
     -- entries i and i + 1 are neighbours
-    pub entries-next : (i : ℕ) → i < width (bandAt t k) → Next (ladder t) (i * bandAt t k .spread + bandAt t k .bottom) (suc i * bandAt t k .spread + bandAt t k .bottom)
+    pub entries-next : (i : ℕ) → i < width (bandAt t k) →
+        Next (ladder t) (i * bandAt t k .spread + bandAt t k .bottom) (suc i * bandAt t k .spread + bandAt t k .bottom)
     entries-next i w =
         next-at (ladder t) ladder-rises (placesBelow k t + i) _ _ (entry i (omega arith))
         (rw (← (add-suc (placesBelow k t) i)) (entry (suc i) w))
@@ -98,8 +100,10 @@ module _ (t : List Band) (wf : T (wellFormed t)) where
     pub band-facts : (b : Band) → b ≡ bandAt t k → Whole b
     band-facts b e = rw e is-whole
 
-    pub band-next : (b : Band) → b ≡ bandAt t k → (i : ℕ) → i < width b → Next (ladder t) (i * b .spread + b .bottom) (suc i * b .spread + b .bottom)
+    pub band-next : (b : Band) → b ≡ bandAt t k → (i : ℕ) → i < width b →
+        Next (ladder t) (i * b .spread + b .bottom) (suc i * b .spread + b .bottom)
     band-next b e i m = rw e (entries-next i (rw e at m))
 
-    pub band-entry-at : (b : Band) → b ≡ bandAt t k → (i : ℕ) → i ≤ width b → priceAt (placesBelow k t + i) (ladder t) ≡ Price (i * b .spread + b .bottom)
+    pub band-entry-at : (b : Band) → b ≡ bandAt t k → (i : ℕ) → i ≤ width b →
+        priceAt (placesBelow k t + i) (ladder t) ≡ Price (i * b .spread + b .bottom)
     band-entry-at b e i m = rw e (entry i (rw e at m))

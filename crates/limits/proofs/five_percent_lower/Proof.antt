@@ -16,5 +16,4 @@ returns : tie.Need-returns
 returns c = rw (← (c .before .before .phase-1 .ensures .0)) (c .lower .ensures)
 
 pub five-percent-lower-spec : {M : Type 1} → statement M
-five-percent-lower-spec =
-    tie.close (tie.spec phase-1-requires slice-aggregate-lower lower-requires returns)
+five-percent-lower-spec = tie.close (tie.spec phase-1-requires slice-aggregate-lower lower-requires returns)

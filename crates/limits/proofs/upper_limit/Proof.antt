@@ -16,5 +16,4 @@ returns : tie.Need-returns
 returns c = rw (← (c .before .before .phase-1 .ensures .0)) (c .upper .ensures)
 
 pub upper-limit-spec : {M : Type 1} → statement M
-upper-limit-spec =
-    tie.close (tie.spec phase-1-requires slice-aggregate-upper upper-requires returns)
+upper-limit-spec = tie.close (tie.spec phase-1-requires slice-aggregate-upper upper-requires returns)

@@ -41,4 +41,7 @@ returns c =
     rw (add-one, add-two) (band-numbers (now (s .args .table)) (s .args .k) (3 * s .args .k) refl (s .pre))
 
 pub band-at-spec : {M : Type 1} → statement M
-band-at-spec = tie.close (tie.spec mul-at mul-t4 shared-slice-read-t6 add-t7 mul-t8 shared-slice-read-t10 add-t11 mul-t12 shared-slice-read-t14 returns)
+band-at-spec =
+    tie.close
+    (tie.spec mul-at mul-t4 shared-slice-read-t6 add-t7 mul-t8 shared-slice-read-t10 add-t11 mul-t12 shared-slice-read-t14
+    returns)

@@ -76,4 +76,7 @@ returns-2 c =
     rw (c .before .before .places-below .ensures) (place-here t (s .pre) k (on .index) (b .result) (b .ensures) (s .args .price) on)
 
 pub place-of-spec : {M : Type 1} → statement M
-place-of-spec = tie.close (tie.spec standing-of-requires enum-known-standing enum-told returns band-at-requires places-below-requires sub-t7 div-t8 add-t9 returns-2)
+place-of-spec =
+    tie.close
+    (tie.spec standing-of-requires enum-known-standing enum-told returns band-at-requires places-below-requires sub-t7 div-t8
+    add-t9 returns-2)

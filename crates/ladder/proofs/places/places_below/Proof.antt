@@ -59,4 +59,6 @@ returns c =
     rw all at (c .before .loop .inv .1)
 
 pub places-below-spec : {M : Type 1} → statement M
-places-below-spec = tie.close (tie.spec Inv-loop μ-loop loop-holds band-at-requires width-of-requires add-places add-k loop-less loop-again returns)
+places-below-spec =
+    tie.close
+    (tie.spec Inv-loop μ-loop loop-holds band-at-requires width-of-requires add-places add-k loop-less loop-again returns)

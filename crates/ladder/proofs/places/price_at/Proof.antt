@@ -117,4 +117,7 @@ loop-again c =
     (omega arith, omega (arith, leaves (c .before) .0, places-more t (s .pre) (l .k) (l .inv .0) (b .result) (b .ensures)))
 
 pub price-at-spec : {M : Type 1} → statement M
-price-at-spec = tie.close (tie.spec Inv-loop μ-loop count-requires sub-last loop-holds band-at-requires sub-turn-in turn-in-requires enum-known-turn add-t12 returns enum-known-turn-2 returns-2 add-k loop-less loop-again)
+price-at-spec =
+    tie.close
+    (tie.spec Inv-loop μ-loop count-requires sub-last loop-holds band-at-requires sub-turn-in turn-in-requires enum-known-turn
+    add-t12 returns enum-known-turn-2 returns-2 add-k loop-less loop-again)

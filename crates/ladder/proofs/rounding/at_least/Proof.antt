@@ -25,8 +25,9 @@ returns : tie.Need-returns
 returns c =
     let s = c .before .before .before .before .before in
     let t = bandsOf (now (s .args .table)) in
+    let wf = s .pre in
     let high = c .before .product .ensures ∙ ap (λ x. s .args .scale * x) (c .before .before .last-price .ensures) in
-    sym (none-at-least (ladder t) (ladder-rises t (s .pre)) (start t) (start-held t (s .pre)) (s .args .scale) (s .args .y) (omega (arith, high)))
+    sym (none-at-least (ladder t) (ladder-rises t wf) (start t) (start-held t wf) (s .args .scale) (s .args .y) (omega (arith, high)))
 
 product-requires-2 : tie.Need-product-requires-2
 product-requires-2 c κs = search needs
@@ -35,9 +36,10 @@ returns-2 : tie.Need-returns-2
 returns-2 c =
     let s = c .before .before .before .before .before .before .before in
     let t = bandsOf (now (s .args .table)) in
+    let wf = s .pre in
     let first = c .before .before .before .before .before .first-price .ensures in
     let low = c .before .product2 .ensures ∙ ap (λ x. s .args .scale * x) first in
-    ap Price first ∙ sym (all-at-least (ladder t) (ladder-rises t (s .pre)) (start t) (start-held t (s .pre)) (s .args .scale) (s .args .y) (omega (arith, low)))
+    ap Price first ∙ sym (all-at-least (ladder t) (ladder-rises t wf) (start t) (start-held t wf) (s .args .scale) (s .args .y) (omega (arith, low)))
 
 between-requires : tie.Need-between-requires
 between-requires c κs =
@@ -50,4 +52,7 @@ returns-3 : tie.Need-returns-3
 returns-3 c = sym (c .between .ensures .is-above)
 
 pub at-least-spec : {M : Type 1} → statement M
-at-least-spec = tie.close (tie.spec first-price-requires last-price-requires product-requires returns product-requires-2 returns-2 between-requires returns-3)
+at-least-spec =
+    tie.close
+    (tie.spec first-price-requires last-price-requires product-requires returns product-requires-2 returns-2 between-requires
+    returns-3)

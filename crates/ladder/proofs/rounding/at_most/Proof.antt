@@ -25,8 +25,9 @@ returns : tie.Need-returns
 returns c =
     let s = c .before .before .before .before .before in
     let t = bandsOf (now (s .args .table)) in
+    let wf = s .pre in
     let low = c .before .product .ensures ∙ ap (λ x. s .args .scale * x) (c .before .before .before .first-price .ensures) in
-    sym (none-at-most (ladder t) (ladder-rises t (s .pre)) (start t) (start-held t (s .pre)) (s .args .scale) (s .args .y) (omega (arith, low)))
+    sym (none-at-most (ladder t) (ladder-rises t wf) (start t) (start-held t wf) (s .args .scale) (s .args .y) (omega (arith, low)))
 
 product-requires-2 : tie.Need-product-requires-2
 product-requires-2 c κs = search needs
@@ -35,9 +36,10 @@ returns-2 : tie.Need-returns-2
 returns-2 c =
     let s = c .before .before .before .before .before .before .before in
     let t = bandsOf (now (s .args .table)) in
+    let wf = s .pre in
     let last = c .before .before .before .before .last-price .ensures in
     let high = c .before .product2 .ensures ∙ ap (λ x. s .args .scale * x) last in
-    ap Price last ∙ sym (all-at-most (ladder t) (ladder-rises t (s .pre)) (start t) (start-held t (s .pre)) (s .args .scale) (s .args .y) (omega (arith, high)))
+    ap Price last ∙ sym (all-at-most (ladder t) (ladder-rises t wf) (start t) (start-held t wf) (s .args .scale) (s .args .y) (omega (arith, high)))
 
 add-between : tie.Need-add-between
 add-between c = search needs
@@ -56,4 +58,7 @@ returns-3 c =
     sym (rw back at (c .between .ensures .is-below))
 
 pub at-most-spec : {M : Type 1} → statement M
-at-most-spec = tie.close (tie.spec first-price-requires last-price-requires product-requires returns product-requires-2 returns-2 add-between between-requires returns-3)
+at-most-spec =
+    tie.close
+    (tie.spec first-price-requires last-price-requires product-requires returns product-requires-2 returns-2 add-between
+    between-requires returns-3)

@@ -30,7 +30,8 @@ sub-spreads-2 c =
     let t = bandsOf (now (s .args .table)) in
     let k = c .before .before .bands-below in
     let b = c .before .band-at in
-    omega (arith, starts-below t (s .pre .0) (s .args .scale) (s .args .y) (s .pre .1 .0) (s .pre .1 .1) (k .result) (k .ensures) (b .result) (b .ensures), c .product .ensures)
+    let below = starts-below t (s .pre .0) (s .args .scale) (s .args .y) (s .pre .1 .0) (s .pre .1 .1) (k .result) (k .ensures) (b .result) (b .ensures) in
+    omega (arith, c .product .ensures)
 
 product-requires-2 : tie.Need-product-requires-2
 product-requires-2 c κs = search needs
@@ -41,7 +42,8 @@ div-spreads c =
     let t = bandsOf (now (s .args .table)) in
     let k = c .before .before .before .bands-below in
     let b = c .before .before .band-at in
-    rw (c .product2 .ensures) (divisor t (s .pre .0) (s .args .scale) (s .args .y) (s .pre .1 .0) (s .pre .1 .1) (k .result) (k .ensures) (b .result) (b .ensures))
+    rw (c .product2 .ensures)
+    (divisor t (s .pre .0) (s .args .scale) (s .args .y) (s .pre .1 .0) (s .pre .1 .1) (k .result) (k .ensures) (b .result) (b .ensures))
 
 -- the lower neighbour, and the upper one, lie within the band
 bounds : (c : tie.After-product2) →
@@ -81,4 +83,7 @@ returns c =
     (is-between t (s .pre .0) (s .args .scale) (s .args .y) (s .pre .1 .0) (s .pre .1 .1) (k .result) (k .ensures) (b .result) (b .ensures))
 
 pub between-spec : {M : Type 1} → statement M
-between-spec = tie.close (tie.spec bands-below-requires band-at-requires sub-spreads product-requires sub-spreads-2 product-requires-2 div-spreads cast-below mul-below add-below add-t14 returns)
+between-spec =
+    tie.close
+    (tie.spec bands-below-requires band-at-requires sub-spreads product-requires sub-spreads-2 product-requires-2 div-spreads
+    cast-below mul-below add-below add-t14 returns)

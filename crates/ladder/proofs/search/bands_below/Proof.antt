@@ -35,7 +35,9 @@ product-requires : tie.Need-product-requires Inv-loop μ-loop
 product-requires c κs = search needs
 
 -- the band's top, times scale
-scaled-top : (c : tie.After-product Inv-loop μ-loop) → c .product .result ≡ c .before .before .before .before .before .before .args .scale * bandAt (bandsOf (now (c .before .before .before .before .before .before .args .table))) (c .before .before .before .loop .k) .top
+scaled-top : (c : tie.After-product Inv-loop μ-loop) →
+    let a = c .before .before .before .before .before .before .args in
+    c .product .result ≡ a .scale * bandAt (bandsOf (now (a .table))) (c .before .before .before .loop .k) .top
 scaled-top c = rw (c .before .band-at .ensures) at (c .product .ensures)
 
 returns : tie.Need-returns Inv-loop μ-loop
@@ -63,4 +65,7 @@ returns-2 c =
     omega (arith, ends (a .scale) (a .y) (bandsOf (now (a .table))) (c .before .loop .k) (omega arith))
 
 pub bands-below-spec : {M : Type 1} → statement M
-bands-below-spec = tie.close (tie.spec Inv-loop μ-loop count-requires loop-holds band-at-requires product-requires returns add-k loop-less loop-again returns-2)
+bands-below-spec =
+    tie.close
+    (tie.spec Inv-loop μ-loop count-requires loop-holds band-at-requires product-requires returns add-k loop-less loop-again
+    returns-2)

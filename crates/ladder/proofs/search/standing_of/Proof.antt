@@ -56,4 +56,6 @@ returns-4 c =
     off-between t (s .pre) (s .args .price) (k .result) (k .ensures) (b .result) (b .ensures) (omega arith) (omega arith) (c .if3 .left)
 
 pub standing-of-spec : {M : Type 1} → statement M
-standing-of-spec = tie.close (tie.spec bands-below-requires count-requires returns band-at-requires returns-2 rem-if3 returns-3 returns-4)
+standing-of-spec =
+    tie.close
+    (tie.spec bands-below-requires count-requires returns band-at-requires returns-2 rem-if3 returns-3 returns-4)

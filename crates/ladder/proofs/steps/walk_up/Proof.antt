@@ -10,7 +10,7 @@ use Rattle.ladder.specs.Layout.{bandsOf, pricesOf}
 use Rattle.ladder.specs.Spreads.{times, spreadUp}
 use Rattle.ladder.specs.Arithmetic.{StandsIn}
 use Rattle.ladder.proofs.Tables.Table.{table-facts, band-facts}
-use Rattle.ladder.proofs.Tables.Walks.{up-ends, up-leaves, into-next, up-halts}
+use Rattle.ladder.proofs.Tables.Walks.{Way, walk-ends, walk-leaves, way-up, into-next, up-halts}
 use Rattle.ladder.proofs.steps.walk_up.Statement.{statement}
 use Rattle.ladder.proofs.steps.walk_up.Tie as tie
 
@@ -58,23 +58,34 @@ turn-in-requires c κs =
 enum-known-turn : tie.Need-enum-known-turn Inv-loop μ-loop
 enum-known-turn c = search needs
 
--- the walk ends in this band
+-- the way through this band
+way : (c : tie.After-turn-in Inv-loop μ-loop) →
+    let s = c .before .before .before .before .before .before in
+    let at = c .before .before .before .loop .at in
+    let b = c .before .before .band-at .result in
+    Way (spreadUp (pricesOf (now (s .args .table)))) (b .spread) at (b .top - at) (b .top) (λ m. at + m)
+way c =
+    let s = c .before .before .before .before .before .before in
+    let t = bandsOf (now (s .args .table)) in
+    let l = c .before .before .before .loop in
+    let b = c .before .before .band-at in
+    way-up t (s .pre .0) (l .k) (l .at) (l .inv .0) (b .result) (b .ensures)
+
+-- the walk ends in it
 ends : (c : tie.After-known-told Inv-loop μ-loop) →
     let s = c .before .before .before .before .before .before .before .before .before in
     let l = c .before .before .before .before .before .before .loop in
     let b = c .before .before .before .before .before .band-at .result in
     let mils = c .before .turn .given .0 .0 in
-    (l .at + mils ≤ b .top) × (times (l .left) (spreadUp (pricesOf (now (s .args .table)))) (l .at) ≡ l .at + mils)
+    (mils ≤ b .top - l .at) × (times (l .left) (spreadUp (pricesOf (now (s .args .table)))) (l .at) ≡ l .at + mils)
 ends c =
-    let s = c .before .before .before .before .before .before .before .before .before in
-    let t = bandsOf (now (s .args .table)) in
-    let l = c .before .before .before .before .before .before .loop in
-    let b = c .before .before .before .before .before .band-at in
-    up-ends t (s .pre .0) (l .k) (l .at) (l .inv .0) (b .result) (b .ensures) (l .left) (c .before .turn .given .0 .0)
+    walk-ends _ _ _ _ _ _ (way (c .before .before .before)) (c .before .before .before .before .before .before .loop .left) (c .before .turn .given .0 .0)
     (sym (c .before .before .before .turn-in .ensures) ∙ c .before .turn .given .1)
 
 add-result : tie.Need-add-result Inv-loop μ-loop
-add-result c = omega (arith, ends c .0)
+add-result c =
+    let end = ap (λ (x : Band). x .top) (c .before .before .before .before .before .band-at .ensures) in
+    omega (arith, ends c .0, end, c .before .before .before .before .before .before .loop .inv .0 .high)
 
 returns : tie.Need-returns Inv-loop μ-loop
 returns c = sym (ends c .1) ∙ c .before .before .before .before .before .before .loop .inv .1
@@ -88,21 +99,19 @@ leaves : (c : tie.After-known-told2 Inv-loop μ-loop) →
     times (c .before .turn2 .given .0 .0) (spreadUp (pricesOf (now (s .args .table)))) (c .before .before .before .before .before .band-at .result .top) ≡
     times (s .args .n) (spreadUp (pricesOf (now (s .args .table)))) (s .args .price)
 leaves c =
-    let s = c .before .before .before .before .before .before .before .before .before in
-    let t = bandsOf (now (s .args .table)) in
-    let l = c .before .before .before .before .before .before .loop in
-    let b = c .before .before .before .before .before .band-at in
     sym
-    (up-leaves t (s .pre .0) (l .k) (l .at) (l .inv .0) (b .result) (b .ensures) (l .left) (c .before .turn2 .given .0 .0)
+    (walk-leaves _ _ _ _ _ _ (way (c .before .before .before)) (c .before .before .before .before .before .before .loop .left) (c .before .turn2 .given .0 .0)
     (sym (c .before .before .before .turn-in .ensures) ∙ c .before .turn2 .given .1)) ∙
-    l .inv .1
+    c .before .before .before .before .before .before .loop .inv .1
 
 returns-2 : tie.Need-returns-2 Inv-loop μ-loop
 returns-2 c =
     let s = c .before .before .before .before .before .before .before .before .before .before in
     let t = bandsOf (now (s .args .table)) in
     let b = c .before .before .before .before .before .before .band-at in
-    sym (up-halts t (s .pre .0) (c .before .before .before .before .before .before .before .loop .k) (omega arith) (b .result) (b .ensures) (c .before .before .turn2 .given .0 .0)) ∙ leaves (c .before)
+    let k = c .before .before .before .before .before .before .before .loop .k in
+    sym (up-halts t (s .pre .0) k (omega arith) (b .result) (b .ensures) (c .before .before .turn2 .given .0 .0)) ∙
+    leaves (c .before)
 
 add-k : tie.Need-add-k Inv-loop μ-loop
 add-k c = omega arith
@@ -115,7 +124,11 @@ loop-again c =
     let s = c .before .before .before .before .before .before .before .before .before .before in
     let t = bandsOf (now (s .args .table)) in
     let b = c .before .before .before .before .before .before .band-at in
-    (into-next t (s .pre .0) (c .before .before .before .before .before .before .before .loop .k) (omega arith) (b .result) (b .ensures), leaves (c .before))
+    let k = c .before .before .before .before .before .before .before .loop .k in
+    (into-next t (s .pre .0) k (omega arith) (b .result) (b .ensures), leaves (c .before))
 
 pub walk-up-spec : {M : Type 1} → statement M
-walk-up-spec = tie.close (tie.spec Inv-loop μ-loop count-requires sub-last loop-holds band-at-requires sub-turn-in turn-in-requires enum-known-turn add-result returns enum-known-turn-2 returns-2 add-k loop-less loop-again)
+walk-up-spec =
+    tie.close
+    (tie.spec Inv-loop μ-loop count-requires sub-last loop-holds band-at-requires sub-turn-in turn-in-requires enum-known-turn
+    add-result returns enum-known-turn-2 returns-2 add-k loop-less loop-again)

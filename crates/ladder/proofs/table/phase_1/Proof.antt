@@ -80,4 +80,7 @@ returns c =
     (all, rw all (the-phase1-table .well-formed))
 
 pub phase-1-spec : {M : Type 1} → statement M
-phase-1-spec = tie.close (tie.spec Inv-loop μ-loop loop-holds mul-band array-copy-out-band mul-at mul-numbers array-write-numbers add-numbers mul-numbers-2 array-write-numbers-2 add-numbers-2 mul-numbers-3 array-write-numbers-3 add-k loop-less loop-again returns)
+phase-1-spec =
+    tie.close
+    (tie.spec Inv-loop μ-loop loop-holds mul-band array-copy-out-band mul-at mul-numbers array-write-numbers add-numbers
+    mul-numbers-2 array-write-numbers-2 add-numbers-2 mul-numbers-3 array-write-numbers-3 add-k loop-less loop-again returns)

@@ -43,4 +43,6 @@ returns-2 c =
     c .first-price .ensures ∙ ap (orElse (firstPrice l)) (sym (c .before .enum-told .given .1) ∙ found (c .before .before .before))
 
 pub rounded-down-spec : {M : Type 1} → statement M
-rounded-down-spec = tie.close (tie.spec product-requires at-most-requires enum-known-found enum-told first-price-requires returns returns-2)
+rounded-down-spec =
+    tie.close
+    (tie.spec product-requires at-most-requires enum-known-found enum-told first-price-requires returns returns-2)

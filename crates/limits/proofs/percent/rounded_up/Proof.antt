@@ -43,4 +43,6 @@ returns-2 c =
     c .last-price .ensures ∙ ap (orElse (lastPrice l)) (sym (c .before .enum-told .given .1) ∙ found (c .before .before .before))
 
 pub rounded-up-spec : {M : Type 1} → statement M
-rounded-up-spec = tie.close (tie.spec product-requires at-least-requires enum-known-found enum-told last-price-requires returns returns-2)
+rounded-up-spec =
+    tie.close
+    (tie.spec product-requires at-least-requires enum-known-found enum-told last-price-requires returns returns-2)
