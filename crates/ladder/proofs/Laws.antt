@@ -17,7 +17,7 @@ use Rattle.ladder.specs.Places.{priceAt, placeOf, lastAfter}
 use Rattle.ladder.specs.Spreads.{spreadUp, spreadDown, times, ifHeld}
 use Rattle.ladder.specs.Laws.{ThePhase1Table, TheLadder, LadderRises, EndsAreTheTables, PlacesAreInverse, SmallestAbove}
 use Rattle.ladder.specs.Laws.{SpreadUpIsNext, LargestBelow, SpreadDownIsPrevious, NThenM, GoingByPlaces, UpThenDown, SmallestAtLeast}
-use Rattle.ladder.specs.Laws.{FirstIsSmallest, LargestAtMost, LatestIsLargest, SpreadsKeepOrder, RoundingKeepsOrder}
+use Rattle.ladder.specs.Laws.{LadderLaws, FirstIsSmallest, LargestAtMost, LatestIsLargest, SpreadsKeepOrder, RoundingKeepsOrder}
 use Rattle.ladder.proofs.Lists.Truth.{passed, true-of}
 use Rattle.ladder.proofs.Lists.Entries.{at-place, past, entry-held, held-entry, entries-rise, place-of-entry, place-off, entry-of-place}
 use Rattle.ladder.proofs.Lists.Extremes.{Best, None, Result, Least, Greatest, first-result, latest-result}
@@ -187,4 +187,25 @@ rounding-keeps-order t wf scale y z m =
     record {
       at-least = at-least-order (ladder t) (rising t wf) scale y z m;
       at-most = at-most-order (ladder t) (rising t wf) scale y z m;
+    }
+
+-- ---- all of them
+
+pub ladder-laws : LadderLaws
+ladder-laws =
+    record {
+      phase1-table = the-phase1-table;
+      ladder-prices = the-ladder;
+      rises = ladder-rises;
+      ends = ends-are-the-tables;
+      places = places-are-inverse;
+      spread-up = spread-up-is-next;
+      spread-down = spread-down-is-previous;
+      adds = n-then-m;
+      by-places = going-by-places;
+      no-return = up-then-down;
+      at-least = first-is-smallest;
+      at-most = latest-is-largest;
+      spreads-ordered = spreads-keep-order;
+      rounding-ordered = rounding-keeps-order;
     }

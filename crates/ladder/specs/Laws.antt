@@ -145,3 +145,20 @@ pub record RoundingOrdered (t : Table) (scale y z : ℕ) : Type 0 where
 
 abbrev pub RoundingKeepsOrder : Type 0
 RoundingKeepsOrder = (t : Table) → T (wellFormed t) → (scale y z : ℕ) → y ≤ z → RoundingOrdered t scale y z
+
+-- All of them.
+pub record LadderLaws : Type 0 where
+  pub phase1-table : ThePhase1Table
+  pub ladder-prices : TheLadder
+  pub rises : LadderRises
+  pub ends : EndsAreTheTables
+  pub places : PlacesAreInverse
+  pub spread-up : SpreadUpIsNext
+  pub spread-down : SpreadDownIsPrevious
+  pub adds : NThenM
+  pub by-places : GoingByPlaces
+  pub no-return : UpThenDown
+  pub at-least : FirstIsSmallest
+  pub at-most : LatestIsLargest
+  pub spreads-ordered : SpreadsKeepOrder
+  pub rounding-ordered : RoundingKeepsOrder
