@@ -3,10 +3,15 @@ use mathlib.Core.Path.{_≡_, refl}
 use Prim.Native.Nat.{ℕ}
 use mathlib.Core.Bool.{Bool, true, false, cond}
 use mathlib.Core.List.{List}
+use lib.Dec.{T}
 use Rattle.ladder.specs.declared.Found.the-variants.{Price, Nothing}
 use Rattle.ladder.specs.Search.{holds}
 use Rattle.ladder.specs.Spreads.{ifHeld}
-use Rattle.ladder.proofs.Lists.Truth.{zero-is-one}
+use Rattle.ladder.proofs.Lists.Truth.{zero-is-one, passed}
+
+-- a price on the ladder has an answer
+pub has-answer : (p : ℕ) (l : List ℕ) (answer : ℕ) → T (holds p l) → ifHeld p l answer ≡ Price answer
+has-answer p l answer h = rw (passed (holds p l) h)
 
 -- a price is answered only from a price on the ladder
 pub record Answered (p : ℕ) (l : List ℕ) (answer q : ℕ) : Type 0 where

@@ -10,9 +10,10 @@ use Rattle.ladder.specs.Bands.{phase1}
 use Rattle.ladder.specs.Search.{first, latest, atLeast, atMost}
 use Rattle.ladder.specs.Ladder.{ladder, isLadderPrice}
 use Rattle.ladder.specs.Spreads.{ifHeld}
-use Rattle.ladder.proofs.Answers.{answered}
+use Rattle.ladder.proofs.Answers.{has-answer}
 use Rattle.ladder.proofs.Laws.{the-phase1-table, the-ladder, first-is-smallest, latest-is-largest, spreads-keep-order, rounding-keeps-order}
-use Rattle.limits.specs.Laws.{PercentageFinds, LimitsAreOrdered, HigherReference}
+use Rattle.limits.specs.Limits.{low, high}
+use Rattle.limits.specs.Laws.{PercentageFinds, LimitsAreOrdered, NoSmaller, HigherReference}
 
 -- a search that cannot find nothing finds a price
 finds : (f : Found) → (f ≡ Nothing → ⊥) → (q : ℕ) × (f ≡ Price q)
@@ -38,19 +39,19 @@ limits-are-ordered t wf scale factor p q h k m =
     let rounded = rounding-keeps-order t wf scale (factor * p) (factor * q) (mul-le-mul-left factor m) in
     record { lower = omega (arith, spreads .down, rounded .at-least); upper = omega (arith, spreads .up, rounded .at-most) }
 
--- a reference that a limit is answered for is a ladder price
-on-ladder : (p answer q : ℕ) → ifHeld p (ladder phase1) answer ≡ Price q → T (isLadderPrice p phase1)
-on-ladder p answer q e = rw (← (the-ladder phase1 (the-phase1-table .well-formed) p), answered p (ladder phase1) answer q e .on) tt
+-- a limit of two ladder prices, from the numbers that it has for them
+no-smaller : (limit : ℕ → ℕ) (p q : ℕ) → T (isLadderPrice p phase1) → T (isLadderPrice q phase1) → limit p ≤ limit q →
+    NoSmaller (λ r. ifHeld r (ladder phase1) (limit r)) p q
+no-smaller limit p q h k m =
+    record { of-p = limit p; of-q = limit q; p-has = has p h; q-has = has q k; ordered = m }
+  where
+    has : (r : ℕ) → T (isLadderPrice r phase1) → ifHeld r (ladder phase1) (limit r) ≡ Price (limit r)
+    has r on = has-answer r (ladder phase1) (limit r) (rw (the-ladder phase1 (the-phase1-table .well-formed) r) on)
 
 pub higher-reference : HigherReference
-higher-reference p q m =
+higher-reference p q h k m =
+    let wf = the-phase1-table .well-formed in
     record {
-      lower = λ a b e f. less a b _ _ e f (λ h k. limits-are-ordered phase1 (the-phase1-table .well-formed) 100 95 p q h k m .lower);
-      upper = λ a b e f. less a b _ _ e f (λ h k. limits-are-ordered phase1 (the-phase1-table .well-formed) 100 105 p q h k m .upper);
+      lower = no-smaller (low (ladder phase1) 100 95) p q h k (limits-are-ordered phase1 wf 100 95 p q h k m .lower);
+      upper = no-smaller (high (ladder phase1) 100 105) p q h k (limits-are-ordered phase1 wf 100 105 p q h k m .upper);
     }
-  where
-    less : (a b x y : ℕ) → ifHeld p (ladder phase1) x ≡ Price a → ifHeld q (ladder phase1) y ≡ Price b →
-        (T (isLadderPrice p phase1) → T (isLadderPrice q phase1) → x ≤ y) → a ≤ b
-    less a b x y e f order =
-        omega
-        (arith, answered p (ladder phase1) x a e .is, answered q (ladder phase1) y b f .is, order (on-ladder p x a e) (on-ladder q y b f))

@@ -2,6 +2,7 @@
 use mathlib.Core.Path.{_≡_}
 use Prim.Native.Nat.{ℕ, _*_, _≤_}
 use lib.Dec.{T}
+use Rattle.ladder.specs.declared.Found.{Found}
 use Rattle.ladder.specs.declared.Found.the-variants.{Price}
 use Rattle.ladder.specs.Bands.{Table, phase1, wellFormed}
 use Rattle.ladder.specs.Ladder.{ladder, isLadderPrice}
@@ -26,10 +27,18 @@ abbrev pub LimitsAreOrdered : Type 0
 LimitsAreOrdered =
     (t : Table) → T (wellFormed t) → (scale factor p q : ℕ) → T (isLadderPrice p t) → T (isLadderPrice q t) → p ≤ q → Ordered t scale factor p q
 
+-- both references have a limit, and that of the higher one, q, is not the smaller
+pub record NoSmaller (limit : ℕ → Found) (p q : ℕ) : Type 0 where
+  pub of-p : ℕ
+  pub of-q : ℕ
+  pub p-has : limit p ≡ Price of-p
+  pub q-has : limit q ≡ Price of-q
+  pub ordered : of-p ≤ of-q
+
 -- Demand 3c, on Phase 1 at 5 percent: for every two ladder prices as references, the higher never has a smaller lower or upper limit.
 pub record HigherHasNoSmaller (p q : ℕ) : Type 0 where
-  pub lower : (a b : ℕ) → lowerLimit (ladder phase1) p ≡ Price a → lowerLimit (ladder phase1) q ≡ Price b → a ≤ b
-  pub upper : (a b : ℕ) → upperLimit (ladder phase1) p ≡ Price a → upperLimit (ladder phase1) q ≡ Price b → a ≤ b
+  pub lower : NoSmaller (lowerLimit (ladder phase1)) p q
+  pub upper : NoSmaller (upperLimit (ladder phase1)) p q
 
 abbrev pub HigherReference : Type 0
-HigherReference = (p q : ℕ) → p ≤ q → HigherHasNoSmaller p q
+HigherReference = (p q : ℕ) → T (isLadderPrice p phase1) → T (isLadderPrice q phase1) → p ≤ q → HigherHasNoSmaller p q
