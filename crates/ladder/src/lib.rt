@@ -5,7 +5,7 @@
 mod bands; // bands.rt: the layout of a table as plain numbers
 mod search; // search.rt: the band where a threshold lands, and where a price stands
 mod turns; // turns.rt: one band of a walk
-pub mod numbers; // numbers.rt: products that do not wrap
+pub mod numbers; // numbers.rt: products that do not wrap, the smaller and the larger of two
 pub mod table; // table.rt: the Phase 1 table, and the ends of a ladder
 pub mod places; // places.rt: place to price, price to place
 pub mod steps; // steps.rt: n spreads up and down

@@ -3,6 +3,7 @@
 use Prim.Native.Nat.{ℕ, _*_, min, max}
 use mathlib.Core.List.{List}
 use Rattle.ladder.specs.declared.Found.{Found}
+use Rattle.limits.specs.declared.Percentage.{Percentage}
 use Rattle.ladder.specs.Search.{first, latest, orElse, atLeast, atMost}
 use Rattle.ladder.specs.Places.{firstPrice, lastPrice}
 use Rattle.ladder.specs.Spreads.{spreadUp, spreadDown, times, ifHeld}
@@ -36,6 +37,10 @@ lowOf l scale factor r = ifHeld r l (low l scale factor r)
 
 abbrev pub highOf : List ℕ → ℕ → ℕ → ℕ → Found
 highOf l scale factor r = ifHeld r l (high l scale factor r)
+
+-- 5 percent: 95 * r and 105 * r, against 100 * q
+abbrev pub fivePercent : Percentage
+fivePercent = record { scale = 100; lower = 95; upper = 105 }
 
 -- at 5 percent: the two limits, Low(R) and High(R) of document 01, and the 5 percent limits by themselves
 abbrev pub fivePercentLower : List ℕ → ℕ → Found

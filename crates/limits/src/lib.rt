@@ -9,7 +9,14 @@ use ladder::Found;
 ghost use mathlib.Core.Path.{_≡_};
 ghost use Rattle.ladder.specs.Bands.{phase1};
 ghost use Rattle.ladder.specs.Ladder.{ladder};
-ghost use Rattle.limits.specs.Limits.{fivePercentLower, fivePercentUpper, lowerLimit, upperLimit};
+ghost use Rattle.limits.specs.Limits.{fivePercent, fivePercentLower, fivePercentUpper, lowerLimit, upperLimit};
+
+// A percentage below and above a reference r: `lower` * r, and `upper` * r, against `scale` times a price.
+pub struct Percentage {
+    pub scale: u32,
+    pub lower: u32,
+    pub upper: u32,
+}
 
 // 5 percent below a reference is 95 hundredths of it, 5 percent above it 105.
 const SCALE: u32 = 100;
@@ -17,6 +24,17 @@ const SCALE: u32 = 100;
 const LOWER: u32 = 95;
 
 const UPPER: u32 = 105;
+
+// 5 percent.
+pub fn five_percent() -> Percentage
+    ensures { λ r. ⌜ r ≡ fivePercent ⌝ }
+{
+    Percentage {
+        scale: SCALE,
+        lower: LOWER,
+        upper: UPPER,
+    }
+}
 
 // The smallest ladder price no more than 5 percent below a reference; nothing from a reference off the ladder.
 pub fn five_percent_lower(reference: u32) -> Found

@@ -1,27 +1,15 @@
 // The lower and the upper limit of a reference: its percentage limit or 24 spreads, whichever is further.
 use super::percent;
 use ladder::Found;
+use ladder::numbers;
 use ladder::steps;
 ghost use mathlib.Core.Path.{_≡_};
-ghost use Prim.Native.Nat.{min, max};
 ghost use lib.Dec.{T};
 ghost use Rattle.ladder.specs.Layout.{isTable, pricesOf};
 ghost use Rattle.limits.specs.Limits.{lowOf, highOf};
 
 // How many spreads a limit reaches at least.
 const SPREADS: u64 = 24;
-
-fn smaller(a: u32, b: u32) -> u32
-    ensures { λ r. ⌜ r ≡ min a b ⌝ }
-{
-    if a <= b { a } else { b }
-}
-
-fn larger(a: u32, b: u32) -> u32
-    ensures { λ r. ⌜ r ≡ max a b ⌝ }
-{
-    if a <= b { b } else { a }
-}
 
 // The lower limit: the smaller of 24 spreads down and the percentage limit; nothing from a reference off the ladder.
 pub fn lower(table: &[u32], scale: u32, factor: u32, reference: u32) -> Found
@@ -33,7 +21,7 @@ pub fn lower(table: &[u32], scale: u32, factor: u32, reference: u32) -> Found
         return Found::Nothing;
     };
     let rounded = percent::rounded_up(table, scale, factor, reference);
-    Found::Price(smaller(spreads, rounded))
+    Found::Price(numbers::smaller(spreads, rounded))
 }
 
 // The upper limit: the larger of 24 spreads up and the percentage limit; nothing from a reference off the ladder.
@@ -46,5 +34,5 @@ pub fn upper(table: &[u32], scale: u32, factor: u32, reference: u32) -> Found
         return Found::Nothing;
     };
     let rounded = percent::rounded_down(table, scale, factor, reference);
-    Found::Price(larger(spreads, rounded))
+    Found::Price(numbers::larger(spreads, rounded))
 }

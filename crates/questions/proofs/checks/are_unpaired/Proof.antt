@@ -1,0 +1,28 @@
+use borrow.Author.Needs.{needs}
+use Rattle.questions.proofs.checks.are_unpaired.Statement.{statement}
+use Rattle.questions.proofs.checks.are_unpaired.Tie as tie
+
+is-present-requires : tie.Need-is-present-requires
+is-present-requires c κs = search needs
+
+is-present-requires-2 : tie.Need-is-present-requires-2
+is-present-requires-2 c κs = search needs
+
+are-different-requires : tie.Need-are-different-requires
+are-different-requires c κs = search needs
+
+is-below-requires : tie.Need-is-below-requires
+is-below-requires c κs = search needs
+
+returns : tie.Need-returns
+returns c = cc
+
+pub are-unpaired-spec : {M : Type 1} → statement M
+are-unpaired-spec =
+    tie.close
+    (tie.spec
+    is-present-requires
+    is-present-requires-2
+    are-different-requires
+    is-below-requires
+    returns)

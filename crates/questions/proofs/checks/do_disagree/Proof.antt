@@ -1,0 +1,50 @@
+use borrow.Author.Needs.{needs}
+use Rattle.questions.specs.Checks.{disagree}
+use Rattle.questions.proofs.checks.do_disagree.Statement.{statement}
+use Rattle.questions.proofs.checks.do_disagree.Tie as tie
+
+has-buy-queue-requires : tie.Need-has-buy-queue-requires
+has-buy-queue-requires c κs = search needs
+
+is-present-requires : tie.Need-is-present-requires
+is-present-requires c κs = search needs
+
+are-different-requires : tie.Need-are-different-requires
+are-different-requires c κs = search needs
+
+has-sell-queue-requires : tie.Need-has-sell-queue-requires
+has-sell-queue-requires c κs = search needs
+
+is-present-requires-2 : tie.Need-is-present-requires-2
+is-present-requires-2 c κs = search needs
+
+are-different-requires-2 : tie.Need-are-different-requires-2
+are-different-requires-2 c κs = search needs
+
+is-crossed-requires : tie.Need-is-crossed-requires
+is-crossed-requires c κs = search needs
+
+is-quoted-before-requires : tie.Need-is-quoted-before-requires
+is-quoted-before-requires c κs = search needs
+
+are-unpaired-requires : tie.Need-are-unpaired-requires
+are-unpaired-requires c κs = search needs
+
+returns : tie.Need-returns
+unfolding disagree
+returns c = cc
+
+pub do-disagree-spec : {M : Type 1} → statement M
+do-disagree-spec =
+    tie.close
+    (tie.spec
+    has-buy-queue-requires
+    is-present-requires
+    are-different-requires
+    has-sell-queue-requires
+    is-present-requires-2
+    are-different-requires-2
+    is-crossed-requires
+    is-quoted-before-requires
+    are-unpaired-requires
+    returns)

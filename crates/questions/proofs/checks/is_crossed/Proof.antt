@@ -1,0 +1,52 @@
+use borrow.Author.Needs.{needs}
+use Rattle.questions.proofs.checks.is_crossed.Statement.{statement}
+use Rattle.questions.proofs.checks.is_crossed.Tie as tie
+
+enum-told : tie.Need-enum-told
+enum-told c = search needs
+
+enum-known-queues : tie.Need-enum-known-queues
+enum-known-queues c = search needs
+
+is-below-requires : tie.Need-is-below-requires
+is-below-requires c κs = search needs
+
+enum-known-queues-2 : tie.Need-enum-known-queues-2
+enum-known-queues-2 c = search needs
+
+enum-known-queues-3 : tie.Need-enum-known-queues-3
+enum-known-queues-3 c = search needs
+
+enum-known-queues-4 : tie.Need-enum-known-queues-4
+enum-known-queues-4 c = search needs
+
+returns : tie.Need-returns
+returns c = search needs
+
+returns-2 : tie.Need-returns-2
+returns-2 c = cc
+
+returns-3 : tie.Need-returns-3
+returns-3 c = search needs
+
+returns-4 : tie.Need-returns-4
+returns-4 c = search needs
+
+returns-5 : tie.Need-returns-5
+returns-5 c = search needs
+
+pub is-crossed-spec : {M : Type 1} → statement M
+is-crossed-spec =
+    tie.close
+    (tie.spec
+    enum-told
+    enum-known-queues
+    is-below-requires
+    enum-known-queues-2
+    enum-known-queues-3
+    enum-known-queues-4
+    returns
+    returns-2
+    returns-3
+    returns-4
+    returns-5)

@@ -1,0 +1,40 @@
+use borrow.Author.Needs.{needs}
+use Rattle.questions.proofs.missing.least_of.Statement.{statement}
+use Rattle.questions.proofs.missing.least_of.Tie as tie
+
+enum-told : tie.Need-enum-told
+enum-told c = search needs
+
+enum-known-a : tie.Need-enum-known-a
+enum-known-a c = search needs
+
+enum-told-2 : tie.Need-enum-told-2
+enum-told-2 c = search needs
+
+enum-known-b : tie.Need-enum-known-b
+enum-known-b c = search needs
+
+smaller-requires : tie.Need-smaller-requires
+smaller-requires c κs = search needs
+
+returns : tie.Need-returns
+returns c = search needs
+
+returns-2 : tie.Need-returns-2
+returns-2 c = cc
+
+returns-3 : tie.Need-returns-3
+returns-3 c = cc
+
+pub least-of-spec : {M : Type 1} → statement M
+least-of-spec =
+    tie.close
+    (tie.spec
+    enum-told
+    enum-known-a
+    enum-told-2
+    enum-known-b
+    smaller-requires
+    returns
+    returns-2
+    returns-3)

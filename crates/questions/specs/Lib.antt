@@ -1,0 +1,5 @@
+-- What a question is, which rule its codes choose, and checks 2 to 5. To be read in this order.
+pub mod Missing
+pub mod Record
+pub mod Rules
+pub mod Checks

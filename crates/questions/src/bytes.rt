@@ -1,0 +1,20 @@
+// Little-endian numbers in bytes.
+ghost use mathlib.Core.Path.{_≡_};
+ghost use Prim.Native.Nat.{_+_, _*_, _≤_};
+ghost use lib.ListN.{length};
+ghost use Rattle.questions.specs.Record.{number};
+
+// The number of four bytes, the lowest first.
+pub fn from_bytes(a: u8, b: u8, c: u8, d: u8) -> u32
+    ensures { λ r. ⌜ r ≡ a + b * 256 + c * 65536 + d * 16777216 ⌝ }
+{
+    (a as u32) + (b as u32) * 256 + (c as u32) * 65536 + (d as u32) * 16777216
+}
+
+// The number of the four bytes from a place on.
+pub(crate) fn number_at(s: &[u8], at: usize) -> u32
+    requires { ⌜ at + 4 ≤ length (now s) ⌝ }
+    ensures { λ r. ⌜ r ≡ number at (now (s .entry)) ⌝ }
+{
+    from_bytes(s[at], s[at + 1], s[at + 2], s[at + 3])
+}

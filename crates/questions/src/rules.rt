@@ -1,0 +1,74 @@
+// The side, order type and queue code together choose the rule.
+use super::Choice;
+use super::Codes;
+use super::Queues;
+use super::Reference;
+use super::References;
+use super::Rule;
+ghost use mathlib.Core.Path.{_≡_};
+ghost use Rattle.questions.specs.Rules.{chosen, askOf, bidOf};
+
+// The rule and the queues that the codes choose.
+pub fn choose(codes: Codes, references: References) -> Choice
+    ensures { λ r. ⌜ r ≡ chosen codes references ⌝ }
+{
+    if codes.byte_3 != 0 {
+        return Choice::Unknown;
+    }
+    let side = codes.side;
+    let order_type = codes.order_type;
+    let queue = codes.queue;
+    let current_bid = references.current_bid;
+    let current_ask = references.current_ask;
+    let last_bid = references.last_bid;
+    let last_ask = references.last_ask;
+    let queues = match queue {
+        1 => Queues::Opening,
+        2 => Queues::Both(current_bid, current_ask),
+        3 => Queues::BuyOnly(current_bid),
+        4 => Queues::SellOnly(current_ask),
+        5 => Queues::Neither(last_bid, last_ask),
+        0 | 6..=255 => return Choice::Unknown,
+    };
+    match side {
+        1 => match order_type {
+            1 => Choice::Chosen(Rule::BuyLimit, queues),
+            2 => Choice::Chosen(Rule::BuyEnhanced, queues),
+            3 => Choice::Chosen(Rule::BuySpecial, queues),
+            0 | 4..=255 => Choice::Unknown,
+        },
+        2 => match order_type {
+            1 => Choice::Chosen(Rule::SellLimit, queues),
+            2 => Choice::Chosen(Rule::SellEnhanced, queues),
+            3 => Choice::Chosen(Rule::SellSpecial, queues),
+            0 | 4..=255 => Choice::Unknown,
+        },
+        0 | 3..=255 => Choice::Unknown,
+    }
+}
+
+// The current ask, where there is a sell queue.
+pub fn ask_of(queues: Queues) -> Reference
+    ensures { λ r. ⌜ r ≡ askOf queues ⌝ }
+{
+    match queues {
+        Queues::Opening => Reference::Missing,
+        Queues::Both(_bid, ask) => ask,
+        Queues::BuyOnly(_bid) => Reference::Missing,
+        Queues::SellOnly(ask) => ask,
+        Queues::Neither(_last_bid, _last_ask) => Reference::Missing,
+    }
+}
+
+// The current bid, where there is a buy queue.
+pub fn bid_of(queues: Queues) -> Reference
+    ensures { λ r. ⌜ r ≡ bidOf queues ⌝ }
+{
+    match queues {
+        Queues::Opening => Reference::Missing,
+        Queues::Both(bid, _ask) => bid,
+        Queues::BuyOnly(bid) => bid,
+        Queues::SellOnly(_ask) => Reference::Missing,
+        Queues::Neither(_last_bid, _last_ask) => Reference::Missing,
+    }
+}

@@ -1,0 +1,21 @@
+use borrow.Author.Needs.{needs}
+use Rattle.ranges.specs.Permitted.{rangeOf}
+use Rattle.ranges.proofs.permitted.range_of.Statement.{statement}
+use Rattle.ranges.proofs.permitted.range_of.Tie as tie
+
+lowest-of-requires : tie.Need-lowest-of-requires
+lowest-of-requires c κs = search needs
+
+highest-of-requires : tie.Need-highest-of-requires
+highest-of-requires c κs = search needs
+
+nine-fold-of-requires : tie.Need-nine-fold-of-requires
+nine-fold-of-requires c κs = search needs
+
+returns : tie.Need-returns
+unfolding rangeOf
+returns c = cc
+
+pub range-of-spec : {M : Type 1} → statement M
+range-of-spec =
+    tie.close (tie.spec lowest-of-requires highest-of-requires nine-fold-of-requires returns)

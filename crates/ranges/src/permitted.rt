@@ -1,0 +1,166 @@
+// The permitted range, rule by rule.
+use super::Range;
+use super::bounds;
+use ladder::table;
+use limits::Percentage;
+use questions::Queues;
+use questions::Reference;
+use questions::References;
+use questions::Rule;
+use questions::missing;
+use questions::rules;
+ghost use mathlib.Core.Path.{_≡_};
+ghost use lib.Dec.{T};
+ghost use Rattle.ladder.specs.Layout.{isTable, pricesOf};
+ghost use Rattle.ranges.specs.Permitted.{buyReference, sellReference, buyLowest, sellHighest, lowestOf, highestOf, nineFold, rangeOf};
+
+// The reference whose lower limit is the lowest price of a buy; missing where that is the bottom.
+fn buy_reference(queues: Queues, close: Reference, low: Reference) -> Reference
+    ensures { λ r. ⌜ r ≡ buyReference queues close low ⌝ }
+{
+    match queues {
+        Queues::Opening => close,
+        Queues::Both(bid, _ask) => bid,
+        Queues::BuyOnly(bid) => bid,
+        Queues::SellOnly(ask) => missing::least_of(ask, missing::least_of(close, low)),
+        Queues::Neither(_last_bid, last_ask) => {
+            if !missing::is_present(close) & !missing::is_present(low) {
+                Reference::Missing
+            } else {
+                missing::least_of(last_ask, missing::least_of(close, low))
+            }
+        }
+    }
+}
+
+// The reference whose upper limit is the highest price of a sell; missing where that is the top.
+fn sell_reference(queues: Queues, close: Reference, high: Reference) -> Reference
+    ensures { λ r. ⌜ r ≡ sellReference queues close high ⌝ }
+{
+    match queues {
+        Queues::Opening => close,
+        Queues::Both(_bid, ask) => ask,
+        Queues::BuyOnly(bid) => missing::greatest_of(bid, missing::greatest_of(close, high)),
+        Queues::SellOnly(ask) => ask,
+        Queues::Neither(last_bid, _last_ask) => {
+            if !missing::is_present(close) & !missing::is_present(high) {
+                Reference::Missing
+            } else {
+                missing::greatest_of(last_bid, missing::greatest_of(close, high))
+            }
+        }
+    }
+}
+
+// The lowest price of a limit or enhanced limit buy.
+fn buy_lowest(table: &[u32], percentage: Percentage, queues: Queues, references: References) -> u32
+    requires { ⌜ T (isTable (now table)) ⌝ }
+    ensures { λ r. ⌜ r ≡ buyLowest (pricesOf (now (table .entry))) percentage queues references ⌝ }
+{
+    let close = references.previous_close;
+    let low = references.day_low;
+    let limit = bounds::low(table, percentage, buy_reference(queues, close, low));
+    missing::price_or(limit, table::first_price(table))
+}
+
+// The highest price of a limit or enhanced limit sell.
+fn sell_highest(
+    table: &[u32],
+    percentage: Percentage,
+    queues: Queues,
+    references: References,
+) -> u32
+    requires { ⌜ T (isTable (now table)) ⌝ }
+    ensures { λ r. ⌜ r ≡ sellHighest (pricesOf (now (table .entry))) percentage queues references ⌝ }
+{
+    let close = references.previous_close;
+    let high = references.day_high;
+    let limit = bounds::high(table, percentage, sell_reference(queues, close, high));
+    missing::price_or(limit, table::last_price(table))
+}
+
+// The lowest price that a rule permits.
+fn lowest_of(
+    table: &[u32],
+    percentage: Percentage,
+    rule: Rule,
+    queues: Queues,
+    references: References,
+) -> u32
+    requires { ⌜ T (isTable (now table)) ⌝ }
+    ensures { λ r. ⌜ r ≡ lowestOf (pricesOf (now (table .entry))) percentage rule queues references ⌝ }
+{
+    let bottom = table::first_price(table);
+    match rule {
+        Rule::BuyLimit => buy_lowest(table, percentage, queues, references),
+        Rule::BuyEnhanced => buy_lowest(table, percentage, queues, references),
+        Rule::BuySpecial => missing::price_or(rules::ask_of(queues), bottom),
+        Rule::SellLimit => missing::price_or(rules::bid_of(queues), bottom),
+        Rule::SellEnhanced => missing::price_or(
+            bounds::nine_below(table, rules::bid_of(queues)),
+            bottom,
+        ),
+        Rule::SellSpecial => bottom,
+    }
+}
+
+// The highest price that a rule permits.
+fn highest_of(
+    table: &[u32],
+    percentage: Percentage,
+    rule: Rule,
+    queues: Queues,
+    references: References,
+) -> u32
+    requires { ⌜ T (isTable (now table)) ⌝ }
+    ensures { λ r. ⌜ r ≡ highestOf (pricesOf (now (table .entry))) percentage rule queues references ⌝ }
+{
+    let top = table::last_price(table);
+    match rule {
+        Rule::BuyLimit => missing::price_or(rules::ask_of(queues), top),
+        Rule::BuyEnhanced => missing::price_or(
+            bounds::nine_above(table, rules::ask_of(queues)),
+            top,
+        ),
+        Rule::BuySpecial => top,
+        Rule::SellLimit => sell_highest(table, percentage, queues, references),
+        Rule::SellEnhanced => sell_highest(table, percentage, queues, references),
+        Rule::SellSpecial => missing::price_or(rules::bid_of(queues), top),
+    }
+}
+
+// The reference of the nine-fold rule.
+fn nine_fold_of(queues: Queues, close: Reference, nominal: Reference) -> Reference
+    ensures { λ r. ⌜ r ≡ nineFold queues close nominal ⌝ }
+{
+    match queues {
+        Queues::Opening => close,
+        Queues::Both(_bid, _ask) => nominal,
+        Queues::BuyOnly(_bid) => nominal,
+        Queues::SellOnly(_ask) => nominal,
+        Queues::Neither(_last_bid, _last_ask) => nominal,
+    }
+}
+
+// The range that a rule permits.
+pub fn range_of(
+    table: &[u32],
+    percentage: Percentage,
+    rule: Rule,
+    queues: Queues,
+    references: References,
+) -> Range
+    requires { ⌜ T (isTable (now table)) ⌝ }
+    ensures { λ r. ⌜ r ≡ rangeOf (pricesOf (now (table .entry))) percentage rule queues references ⌝ }
+{
+    let close = references.previous_close;
+    let nominal = references.nominal;
+    let lowest = lowest_of(table, percentage, rule, queues, references);
+    let highest = highest_of(table, percentage, rule, queues, references);
+    let nine_fold = nine_fold_of(queues, close, nominal);
+    Range {
+        lowest,
+        highest,
+        nine_fold,
+    }
+}

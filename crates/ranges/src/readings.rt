@@ -1,0 +1,40 @@
+// The reading of a question: checks 2 to 5 in number order, then its permitted range. It does not look at the order price.
+use super::Reading;
+use super::Refusal;
+use super::permitted;
+use limits::Percentage;
+use questions::Choice;
+use questions::Codes;
+use questions::References;
+use questions::checks;
+use questions::rules;
+ghost use mathlib.Core.Path.{_≡_};
+ghost use lib.Dec.{T};
+ghost use Rattle.ladder.specs.Layout.{isTable, pricesOf};
+ghost use Rattle.ranges.specs.Readings.{readingOf};
+
+// The reading of a question's codes and references.
+pub fn reading_of(
+    table: &[u32],
+    percentage: Percentage,
+    codes: Codes,
+    references: References,
+) -> Reading
+    requires { ⌜ T (isTable (now table)) ⌝ }
+    ensures { λ r. ⌜ r ≡ readingOf (pricesOf (now (table .entry))) percentage codes references ⌝ }
+{
+    let choice = rules::choose(codes, references);
+    let Choice::Chosen(rule, queues) = choice else {
+        return Reading::Refused(Refusal::UnknownCode);
+    };
+    if checks::any_off(table, references) {
+        return Reading::Refused(Refusal::OffLadder);
+    }
+    if checks::do_disagree(queues, references) {
+        return Reading::Refused(Refusal::Disagreement);
+    }
+    if checks::is_unopposed(rule, queues) {
+        return Reading::Refused(Refusal::NoOpposite);
+    }
+    Reading::Permitted(permitted::range_of(table, percentage, rule, queues, references))
+}
