@@ -15,16 +15,17 @@ use Rattle.ladder.specs.Ladder.{rungs, bandPrices, ladder, isLadderPrice
 use Rattle.ladder.specs.Search.{holds, first, latestAfter, latest, atLeast, atMost}
 use Rattle.ladder.specs.Places.{priceAt, placeOf, lastAfter}
 use Rattle.ladder.specs.Spreads.{spreadUp, spreadDown, times, ifHeld}
-use Rattle.ladder.specs.Laws.{ThePhase1Table, TheLadder, LadderRises, EndsAreTheTables, PlacesAreInverse, SmallestAbove}
+use Rattle.ladder.specs.Laws.{ThePhase1Table, TheLadder, LadderRises, EndsAreTheTables, NeverZero, PlacesAreInverse, SmallestAbove}
 use Rattle.ladder.specs.Laws.{SpreadUpIsNext, LargestBelow, SpreadDownIsPrevious, NThenM, GoingByPlaces, UpThenDown, SmallestAtLeast}
 use Rattle.ladder.specs.Laws.{LadderLaws, FirstIsSmallest, LargestAtMost, LatestIsLargest, SpreadsKeepOrder, RoundingKeepsOrder}
 use Rattle.ladder.proofs.Lists.Truth.{passed, true-of}
+use Rattle.ladder.proofs.Lists.Rising.{Rising, over-first}
 use Rattle.ladder.proofs.Lists.Entries.{at-place, past, entry-held, held-entry, entries-rise, place-of-entry, place-off, entry-of-place}
 use Rattle.ladder.proofs.Lists.Extremes.{Best, None, Result, Least, Greatest, first-result, latest-result}
 use Rattle.ladder.proofs.Lists.Moves.{times-add}
 use Rattle.ladder.proofs.Lists.Going.{ups-entry, downs-entry}
 use Rattle.ladder.proofs.Answers.{answered}
-use Rattle.ladder.proofs.Tables.Table.{table-facts, first-is-start, last-is-top, ladder-rises as rising}
+use Rattle.ladder.proofs.Tables.Table.{table-facts, first-is-start, last-is-top, ladder-rises as rises}
 use Rattle.ladder.proofs.Tables.Members.{the-members}
 use Rattle.ladder.proofs.Lists.Order.{up-by, down-by, up-on, down-on, times-on, spreads-up-order, spreads-down-order}
 use Rattle.ladder.proofs.Lists.Order.{at-least-order, at-most-order}
@@ -47,6 +48,9 @@ module _ (t : List Band) (wf : T (wellFormed t)) where
 
 -- ---- the list
 
+pub rising : (t : List Band) → T (wellFormed t) → Rising (ladder t)
+rising = rises
+
 pub ladder-rises : LadderRises
 ladder-rises t wf = entries-rise (ladder t) (rising t wf)
 
@@ -56,6 +60,11 @@ ends-are-the-tables t wf =
       first-is-bottom = first-is-start t wf;
       last-is-top = last-is-top t wf (length t - 1) (omega (arith, table-facts t wf .some));
     }
+
+pub never-zero : NeverZero
+never-zero t wf p on =
+    let first = over-first (ladder t) (rising t wf) p (listed t wf p on) in
+    omega (arith, first-is-start t wf, table-facts t wf .positive)
 
 -- ---- places
 
@@ -198,6 +207,7 @@ ladder-laws =
       ladder-prices = the-ladder;
       rises = ladder-rises;
       ends = ends-are-the-tables;
+      never-zero = never-zero;
       places = places-are-inverse;
       spread-up = spread-up-is-next;
       spread-down = spread-down-is-previous;

@@ -39,6 +39,10 @@ pub record Ends (t : Table) : Type 0 where
 abbrev pub EndsAreTheTables : Type 0
 EndsAreTheTables = (t : Table) → T (wellFormed t) → Ends t
 
+-- No ladder price is 0, so 0 can stand for a price that is missing.
+abbrev pub NeverZero : Type 0
+NeverZero = (t : Table) → T (wellFormed t) → (p : ℕ) → T (isLadderPrice p t) → 0 < p
+
 -- Place of price and price of place are inverse, both ways and without loss: each ladder price has a place, and each place a price;
 -- a price off the ladder has no place, and a place above the last no price.
 pub record Inverse (t : Table) : Type 0 where
@@ -152,6 +156,7 @@ pub record LadderLaws : Type 0 where
   pub ladder-prices : TheLadder
   pub rises : LadderRises
   pub ends : EndsAreTheTables
+  pub never-zero : NeverZero
   pub places : PlacesAreInverse
   pub spread-up : SpreadUpIsNext
   pub spread-down : SpreadDownIsPrevious

@@ -1,0 +1,158 @@
+-- The laws of specs/Laws.antt, proved.
+use mathlib.Core.Path.{_≡_, refl, _∙_}
+use Prim.Native.Nat.{ℕ, _≤_, _<_}
+use native.Mathlib.Omega.{arith}
+use mathlib.Core.Bool.{Bool, true, false, _&&_}
+use mathlib.Core.List.{List}
+use lib.Dec.{T, eqb, leb, leb→le}
+use lib.ListN.{length}
+use borrow.Author.Tests.{eqb-true, eqb-false, eq-eqb, ne-eqb}
+use Rattle.ladder.specs.Bands.{Table, wellFormed}
+use Rattle.ladder.specs.Ladder.{ladder, isLadderPrice}
+use Rattle.ladder.specs.Search.{holds}
+use Rattle.ladder.proofs.Lists.Truth.{and-left, and-right, true-of}
+use Rattle.ladder.proofs.Laws.{the-ladder, rising, never-zero, listed}
+use Rattle.limits.specs.declared.Percentage.{Percentage}
+use Rattle.questions.specs.Record.{questionBytes, codesOf, priceOf, referencesOf}
+use Rattle.ranges.specs.declared.Range.{Range}
+use Rattle.ranges.specs.declared.Refusal.{Refusal}
+use Rattle.ranges.specs.declared.Refusal.the-variants.{UnknownCode, OffLadder, Disagreement, NoOpposite}
+use Rattle.ranges.specs.declared.Reading.{Reading}
+use Rattle.ranges.specs.declared.Reading.the-variants.{Permitted, Refused}
+use Rattle.ranges.specs.Readings.{readingOf}
+use Rattle.judging.specs.declared.Verdict.{Verdict}
+use Rattle.judging.specs.declared.Verdict.the-variants.{Accepted, OutsideLadder, BetweenPrices, BelowLowest, AboveHighest, NineFold}
+use Rattle.judging.specs.Shown.{isShown, shownOf}
+use Rattle.judging.specs.Cutting.{cutLowest, cutHighest}
+use Rattle.judging.specs.Verdicts.{verdictOf}
+use Rattle.judging.specs.Numbers.{refusalNumber, verdictNumber}
+use Rattle.judging.specs.Answers.{noneShown, answerBy, judged}
+use Rattle.judging.specs.Laws.{ShownIsExactly, isJudged, SameRange, AnyOrderPrice, isQuestionNumber, isRefusal, QuestionNumbers, JudgingLaws}
+use Rattle.judging.proofs.Cuts.{window}
+use Rattle.judging.proofs.Windows.{exactly}
+use Rattle.judging.proofs.Acceptance.{accepts, judged-number}
+use Rattle.judging.proofs.Fields.{same-codes, same-references}
+
+pub shown-is-exactly : ShownIsExactly
+unfolding shownOf
+shown-is-exactly t wf range p on =
+    exactly (ladder t) (rising t wf) (isShown range) (cutLowest (range .lowest) (range .«nine_fold»)) (cutHighest (range .highest) (range .«nine_fold»))
+    (window t wf range _ _ refl refl) p (listed t wf p on) (never-zero t wf p on)
+
+-- ---- any order price
+
+-- on the ladder and shown, or on the ladder from the lowest shown to the highest shown
+from-lowest-to-highest : (t : Table) → T (wellFormed t) → (range : Range) (p : ℕ) →
+    (holds p (ladder t) && isShown range p) ≡
+    (isLadderPrice p t && leb (shownOf (ladder t) range .lowest) p && leb p (shownOf (ladder t) range .highest))
+from-lowest-to-highest t wf range p = rw (the-ladder t wf p) (go (isLadderPrice p t) (shown-is-exactly t wf range p))
+  where
+    go : (on : Bool) →
+        (T on → isShown range p ≡ (leb (shownOf (ladder t) range .lowest) p && leb p (shownOf (ladder t) range .highest))) →
+        (on && isShown range p) ≡ (on && leb (shownOf (ladder t) range .lowest) p && leb p (shownOf (ladder t) range .highest))
+    go true e = e tt
+    go false e = refl
+
+-- a question of 40 bytes is answered by its reading
+by-reading : (l : List ℕ) (percent : Percentage) (s : List ℕ) → length s ≡ questionBytes →
+    judged l percent s ≡ answerBy l (readingOf l percent (codesOf s) (referencesOf s)) (priceOf s)
+unfolding judged
+by-reading l percent s n = rw (eq-eqb (length s) questionBytes n)
+
+other-bytes : (l : List ℕ) (percent : Percentage) (s : List ℕ) → (length s ≡ questionBytes → ⊥) → judged l percent s ≡ noneShown 1
+unfolding judged
+other-bytes l percent s n = rw (ne-eqb (length s) questionBytes n)
+
+-- a refusal is not judged
+not-judged : (x : Refusal) → T (isJudged (refusalNumber x)) → ⊥
+not-judged UnknownCode h = h
+not-judged OffLadder h = h
+not-judged Disagreement h = h
+not-judged NoOpposite h = h
+
+-- nothing is accepted up to 0
+none-up-to-zero : (t : Table) → T (wellFormed t) → (n p lowest highest : ℕ) → eqb n 0 ≡ (isLadderPrice p t && leb lowest p && leb p highest) →
+    highest ≡ 0 → n ≡ 0 → ⊥
+none-up-to-zero t wf n p lowest highest e high accepted =
+    let h : T (isLadderPrice p t && leb lowest p && leb p highest) = rw e at (true-of (eqb n 0) (eq-eqb n 0 accepted)) in
+    let on : T (isLadderPrice p t) = and-left (isLadderPrice p t) (leb lowest p) (and-left (isLadderPrice p t && leb lowest p) (leb p highest) h) in
+    let up-to : p ≤ highest = leb→le p highest (and-right (isLadderPrice p t && leb lowest p) (leb p highest) h) in
+    let over : 0 < p = never-zero t wf p on in
+    omega arith
+
+pub any-order-price : AnyOrderPrice
+any-order-price t wf percent s u ns nu same h =
+    go (readingOf (ladder t) percent (codesOf s) (referencesOf s)) (by-reading (ladder t) percent s ns)
+    (by-reading (ladder t) percent u nu ∙ rw (same-codes s u same, same-references s u same))
+  where
+    p : ℕ
+    p = priceOf u
+
+    go : (reading : Reading) → judged (ladder t) percent s ≡ answerBy (ladder t) reading (priceOf s) →
+        judged (ladder t) percent u ≡ answerBy (ladder t) reading p → SameRange t percent s u
+    go (Refused x) a b = absurd (not-judged x (rw a at h))
+    go (Permitted range) a b =
+        record {
+          judged-too = rw b (judged-number (verdictOf (ladder t) range p));
+          lowest = rw (a, b);
+          highest = rw (a, b);
+          accepted = accepted;
+          never = λ low high n. none-up-to-zero t wf _ p _ _ accepted high n;
+        }
+      where
+        accepted :
+            eqb (judged (ladder t) percent u .number) 0 ≡
+            (isLadderPrice p t && leb (judged (ladder t) percent s .lowest) p && leb p (judged (ladder t) percent s .highest))
+        accepted = rw (a, b) (accepts (ladder t) (rising t wf) range p ∙ from-lowest-to-highest t wf range p)
+
+-- ---- numbers
+
+-- 0 or 2 to 10, by every reading
+by-any-reading : (l : List ℕ) (reading : Reading) (p : ℕ) → T (isQuestionNumber (answerBy l reading p .number))
+by-any-reading l (Permitted range) p = go (verdictOf l range p)
+  where
+    go : (v : Verdict) → T (isQuestionNumber (verdictNumber v))
+    go Accepted = tt
+    go OutsideLadder = tt
+    go BetweenPrices = tt
+    go BelowLowest = tt
+    go AboveHighest = tt
+    go NineFold = tt
+by-any-reading l (Refused UnknownCode) p = tt
+by-any-reading l (Refused OffLadder) p = tt
+by-any-reading l (Refused Disagreement) p = tt
+by-any-reading l (Refused NoOpposite) p = tt
+
+-- 1 to 5 show 0 and 0
+refusal-shows-none : (l : List ℕ) (reading : Reading) (p : ℕ) → T (isRefusal (answerBy l reading p .number)) →
+    answerBy l reading p ≡ noneShown (answerBy l reading p .number)
+refusal-shows-none l (Permitted range) p h = absurd (go (verdictOf l range p) h)
+  where
+    go : (v : Verdict) → T (isRefusal (verdictNumber v)) → ⊥
+    go Accepted h = h
+    go OutsideLadder h = h
+    go BetweenPrices h = h
+    go BelowLowest h = h
+    go AboveHighest h = h
+    go NineFold h = h
+refusal-shows-none l (Refused refusal) p h = refl
+
+pub question-numbers : QuestionNumbers
+question-numbers l percent s =
+    record {
+      of-a-question = λ n. rw (by-reading l percent s n) (by-any-reading l (readingOf l percent (codesOf s) (referencesOf s)) (priceOf s));
+      of-other-bytes = other-bytes l percent s;
+      refused = refused (eqb (length s) questionBytes) refl;
+    }
+  where
+    refused : (v : Bool) → eqb (length s) questionBytes ≡ v → T (isRefusal (judged l percent s .number)) →
+        judged l percent s ≡ noneShown (judged l percent s .number)
+    refused true e h =
+        let by = by-reading l percent s (eqb-true (length s) questionBytes e) in
+        rw by (refusal-shows-none l (readingOf l percent (codesOf s) (referencesOf s)) (priceOf s) (rw by at h))
+    refused false e h = rw (other-bytes l percent s (eqb-false (length s) questionBytes e))
+
+-- ---- all of them
+
+pub judging-laws : JudgingLaws
+judging-laws = record { shown-is-exactly = shown-is-exactly; any-order-price = any-order-price; question-numbers = question-numbers }

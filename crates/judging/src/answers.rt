@@ -1,0 +1,99 @@
+// Numbers and answers.
+use super::Answer;
+use super::Verdict;
+use super::showing;
+use super::verdicts;
+use limits::Percentage;
+use questions::Decoded;
+use questions::decoding;
+use ranges::Range;
+use ranges::Reading;
+use ranges::Refusal;
+use ranges::readings;
+ghost use mathlib.Core.Path.{_≡_};
+ghost use lib.Dec.{T};
+ghost use Rattle.ladder.specs.Layout.{isTable, pricesOf};
+ghost use Rattle.judging.specs.Numbers.{refusalNumber, readingNumber, verdictNumber};
+ghost use Rattle.judging.specs.Answers.{noneShown, answerOn, judged};
+
+// The number of bytes is not that of a question.
+const WRONG_LENGTH: u32 = 1;
+
+// The number of a refusal.
+pub fn refusal_number(refusal: Refusal) -> u32
+    ensures { λ r. ⌜ r ≡ refusalNumber refusal ⌝ }
+{
+    match refusal {
+        Refusal::UnknownCode => 2,
+        Refusal::OffLadder => 3,
+        Refusal::Disagreement => 4,
+        Refusal::NoOpposite => 5,
+    }
+}
+
+// The number of a reading: 0 where there is a range.
+pub fn reading_number(reading: Reading) -> u32
+    ensures { λ r. ⌜ r ≡ readingNumber reading ⌝ }
+{
+    match reading {
+        Reading::Permitted(_range) => 0,
+        Reading::Refused(refusal) => refusal_number(refusal),
+    }
+}
+
+// The number of a verdict.
+pub fn verdict_number(verdict: Verdict) -> u32
+    ensures { λ r. ⌜ r ≡ verdictNumber verdict ⌝ }
+{
+    match verdict {
+        Verdict::Accepted => 0,
+        Verdict::OutsideLadder => 6,
+        Verdict::BetweenPrices => 7,
+        Verdict::BelowLowest => 8,
+        Verdict::AboveHighest => 9,
+        Verdict::NineFold => 10,
+    }
+}
+
+// An answer with no range.
+pub fn none_shown(number: u32) -> Answer
+    ensures { λ r. ⌜ r ≡ noneShown number ⌝ }
+{
+    Answer {
+        number,
+        lowest: 0,
+        highest: 0,
+    }
+}
+
+// The answer to a price against a range.
+pub fn answer_on(table: &[u32], range: Range, price: u32) -> Answer
+    requires { ⌜ T (isTable (now table)) ⌝ }
+    ensures { λ r. ⌜ r ≡ answerOn (pricesOf (now (table .entry))) range price ⌝ }
+{
+    let verdict = verdicts::verdict_on(table, range, price);
+    let shown = showing::shown_of(table, range);
+    Answer {
+        number: verdict_number(verdict),
+        lowest: shown.lowest,
+        highest: shown.highest,
+    }
+}
+
+// The answer to a question as bytes.
+pub fn judge(table: &[u32], percentage: Percentage, s: &[u8]) -> Answer
+    requires { ⌜ T (isTable (now table)) ⌝ }
+    ensures { λ r. ⌜ r ≡ judged (pricesOf (now (table .entry))) percentage (now (s .entry)) ⌝ }
+{
+    let decoded = decoding::decode(s);
+    let Decoded::Asked(question) = decoded else {
+        return none_shown(WRONG_LENGTH);
+    };
+    let codes = question.codes;
+    let references = question.references;
+    let reading = readings::reading_of(table, percentage, codes, references);
+    let Reading::Permitted(range) = reading else {
+        return none_shown(reading_number(reading));
+    };
+    answer_on(table, range, question.price)
+}

@@ -1,0 +1,3 @@
+-- What an off-System trade gets, and its laws.
+pub mod Trades
+pub mod Laws
