@@ -1,3 +1,4 @@
+-- One without the other, or the high below the low.
 use borrow.Author.Needs.{needs}
 use Rattle.questions.proofs.checks.are_unpaired.Statement.{statement}
 use Rattle.questions.proofs.checks.are_unpaired.Tie as tie
@@ -15,7 +16,7 @@ is-below-requires : tie.Need-is-below-requires
 is-below-requires c κs = search needs
 
 returns : tie.Need-returns
-returns c = cc
+returns c = rw (c .before .are-different .ensures, c .before .before .before .is-present .ensures, c .before .before .is-present2 .ensures, c .is-below .ensures)
 
 pub are-unpaired-spec : {M : Type 1} → statement M
 are-unpaired-spec =

@@ -1,3 +1,4 @@
+-- Condition by condition.
 use borrow.Author.Needs.{needs}
 use Rattle.questions.specs.Checks.{disagree}
 use Rattle.questions.proofs.checks.do_disagree.Statement.{statement}
@@ -32,7 +33,7 @@ are-unpaired-requires c κs = search needs
 
 returns : tie.Need-returns
 unfolding disagree
-returns c = cc
+returns c = rw (c .before .before .before .before .before .before .are-different .ensures, c .before .before .before .before .before .before .before .before .has-buy-queue .ensures, c .before .before .before .before .before .before .before .is-present .ensures, c .before .before .before .are-different2 .ensures, c .before .before .before .before .before .has-sell-queue .ensures, c .before .before .before .before .is-present2 .ensures, c .before .before .is-crossed .ensures, c .before .is-quoted-before .ensures, c .are-unpaired .ensures)
 
 pub do-disagree-spec : {M : Type 1} → statement M
 do-disagree-spec =

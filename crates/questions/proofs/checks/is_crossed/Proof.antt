@@ -1,3 +1,4 @@
+-- Case by case: only with both queues are two prices compared.
 use borrow.Author.Needs.{needs}
 use Rattle.questions.proofs.checks.is_crossed.Statement.{statement}
 use Rattle.questions.proofs.checks.is_crossed.Tie as tie
@@ -21,19 +22,19 @@ enum-known-queues-4 : tie.Need-enum-known-queues-4
 enum-known-queues-4 c = search needs
 
 returns : tie.Need-returns
-returns c = search needs
+returns c = rw (c .enum-told .given .1)
 
 returns-2 : tie.Need-returns-2
-returns-2 c = cc
+returns-2 c = rw (c .before .before .queues .given .1, c .is-below .ensures)
 
 returns-3 : tie.Need-returns-3
-returns-3 c = search needs
+returns-3 c = rw (c .before .queues2 .given .1)
 
 returns-4 : tie.Need-returns-4
-returns-4 c = search needs
+returns-4 c = rw (c .before .queues3 .given .1)
 
 returns-5 : tie.Need-returns-5
-returns-5 c = search needs
+returns-5 c = rw (c .before .queues4 .given .1)
 
 pub is-crossed-spec : {M : Type 1} → statement M
 is-crossed-spec =

@@ -1,4 +1,6 @@
+-- Byte by byte.
 use borrow.Author.Needs.{needs}
+use mathlib.Core.Path.{refl}
 use Rattle.questions.specs.Record.{codesOf}
 use Rattle.questions.proofs.decoding.codes_of.Statement.{statement}
 use Rattle.questions.proofs.decoding.codes_of.Tie as tie
@@ -17,7 +19,7 @@ shared-slice-read-t9 c = search needs
 
 returns : tie.Need-returns
 unfolding codesOf
-returns c = cc
+returns c = refl
 
 pub codes-of-spec : {M : Type 1} → statement M
 codes-of-spec =

@@ -1,3 +1,4 @@
+-- The number, as a reference.
 use borrow.Author.Needs.{needs}
 use Rattle.questions.proofs.decoding.reference_at.Statement.{statement}
 use Rattle.questions.proofs.decoding.reference_at.Tie as tie
@@ -9,7 +10,7 @@ reference-of-requires : tie.Need-reference-of-requires
 reference-of-requires c κs = search needs
 
 returns : tie.Need-returns
-returns c = cc
+returns c = rw (c .reference-of .ensures, c .before .number-at .ensures)
 
 pub reference-at-spec : {M : Type 1} → statement M
 reference-at-spec = tie.close (tie.spec number-at-requires reference-of-requires returns)

@@ -1,3 +1,4 @@
+-- Reference by reference.
 use borrow.Author.Needs.{needs}
 use Rattle.questions.specs.Record.{referencesOf}
 use Rattle.questions.proofs.decoding.references_of.Statement.{statement}
@@ -29,7 +30,7 @@ reference-at-requires-8 c κs = search needs
 
 returns : tie.Need-returns
 unfolding referencesOf
-returns c = cc
+returns c = rw (c .before .before .before .before .before .before .before .reference-at .ensures, c .before .before .before .before .before .before .reference-at2 .ensures, c .before .before .before .before .before .reference-at3 .ensures, c .before .before .before .before .reference-at4 .ensures, c .before .before .before .reference-at5 .ensures, c .before .before .reference-at6 .ensures, c .before .reference-at7 .ensures, c .reference-at8 .ensures)
 
 pub references-of-spec : {M : Type 1} → statement M
 references-of-spec =

@@ -1,3 +1,4 @@
+-- Its two ends, and the reference of the nine-fold rule.
 use borrow.Author.Needs.{needs}
 use Rattle.ranges.specs.Permitted.{rangeOf}
 use Rattle.ranges.proofs.permitted.range_of.Statement.{statement}
@@ -14,7 +15,7 @@ nine-fold-of-requires c κs = search needs
 
 returns : tie.Need-returns
 unfolding rangeOf
-returns c = cc
+returns c = rw (c .before .before .lowest-of .ensures, c .before .highest-of .ensures, c .nine-fold-of .ensures)
 
 pub range-of-spec : {M : Type 1} → statement M
 range-of-spec =
