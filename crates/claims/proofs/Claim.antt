@@ -6,29 +6,30 @@ use Rattle.ladder.specs.Ladder.{rungs, bandPrices, ladder}
 use Rattle.ladder.specs.Search.{holds, first, latestAfter}
 use Rattle.ladder.specs.Places.{lastAfter}
 use Rattle.ladder.specs.Spreads.{spreadUp, spreadDown, times}
+use Rattle.questions.specs.Rules.{chosen}
 use Rattle.questions.specs.Checks.{anyOff, disagree}
 use Rattle.ranges.specs.Permitted.{lowestOf, highestOf, rangeOf}
 use Rattle.ranges.specs.Readings.{readingBy, readingOf}
 use Rattle.judging.specs.Shown.{shownOf}
 use Rattle.judging.specs.Verdicts.{verdictOf}
-use Rattle.trades.specs.Trades.{dayOf, dayOff, tradeReading, tradeVerdict, tradeJudged}
+use Rattle.trades.specs.Trades.{tradeReferencesOf, anyTradeOff, tradeReading, tradeVerdict, tradeJudged}
 use Rattle.claims.specs.Worked.{Worked, answers, right, every, lines}
 use Rattle.claims.specs.Worked.{lineA, lineB, lineC, lineD, lineE, lineF, lineG1, lineG2, lineH1, lineH2, lineI1, lineI2, lineJ, lineK, lineL, lineM}
 
 A : right lineA ≡ true
-unfolding phase1 ladder bandPrices rungs holds first latestAfter lastAfter spreadUp spreadDown times anyOff disagree lowestOf highestOf rangeOf readingBy readingOf shownOf verdictOf answers right lineA
+unfolding phase1 ladder bandPrices rungs holds first latestAfter lastAfter spreadUp spreadDown times chosen anyOff disagree lowestOf highestOf rangeOf readingBy readingOf shownOf verdictOf answers right lineA
 A = refl
 
 B : right lineB ≡ true
-unfolding phase1 ladder bandPrices rungs holds first latestAfter lastAfter spreadUp spreadDown times anyOff disagree lowestOf highestOf rangeOf readingBy readingOf shownOf verdictOf answers right lineB
+unfolding phase1 ladder bandPrices rungs holds first latestAfter lastAfter spreadUp spreadDown times chosen anyOff disagree lowestOf highestOf rangeOf readingBy readingOf shownOf verdictOf answers right lineB
 B = refl
 
 C : right lineC ≡ true
-unfolding phase1 ladder bandPrices rungs holds first latestAfter lastAfter spreadUp spreadDown times anyOff disagree lowestOf highestOf rangeOf readingBy readingOf shownOf verdictOf answers right lineC
+unfolding phase1 ladder bandPrices rungs holds first latestAfter lastAfter spreadUp spreadDown times chosen anyOff disagree lowestOf highestOf rangeOf readingBy readingOf shownOf verdictOf answers right lineC
 C = refl
 
 D : right lineD ≡ true
-unfolding phase1 ladder bandPrices rungs holds first latestAfter lastAfter spreadUp spreadDown times anyOff disagree lowestOf highestOf rangeOf readingBy readingOf shownOf verdictOf answers right lineD
+unfolding phase1 ladder bandPrices rungs holds first latestAfter lastAfter spreadUp spreadDown times chosen anyOff disagree lowestOf highestOf rangeOf readingBy readingOf shownOf verdictOf answers right lineD
 D = refl
 
 E : right lineE ≡ true
@@ -68,15 +69,15 @@ unfolding phase1 ladder bandPrices rungs holds first latestAfter lastAfter sprea
 J = refl
 
 K : right lineK ≡ true
-unfolding phase1 ladder bandPrices rungs holds first latestAfter lastAfter spreadUp spreadDown times anyOff disagree lowestOf highestOf rangeOf readingBy readingOf shownOf verdictOf answers right lineK
+unfolding phase1 ladder bandPrices rungs holds first latestAfter lastAfter spreadUp spreadDown times chosen anyOff disagree lowestOf highestOf rangeOf readingBy readingOf shownOf verdictOf answers right lineK
 K = refl
 
 L : right lineL ≡ true
-unfolding phase1 ladder bandPrices rungs holds first latestAfter lastAfter spreadUp spreadDown times anyOff disagree lowestOf highestOf rangeOf readingBy readingOf shownOf verdictOf answers right lineL
+unfolding phase1 ladder bandPrices rungs holds first latestAfter lastAfter spreadUp spreadDown times chosen anyOff disagree lowestOf highestOf rangeOf readingBy readingOf shownOf verdictOf answers right lineL
 L = refl
 
 M : right lineM ≡ true
-unfolding phase1 ladder bandPrices rungs holds first latestAfter lastAfter spreadUp spreadDown times dayOf dayOff tradeReading tradeVerdict tradeJudged answers right lineM
+unfolding phase1 ladder bandPrices rungs holds first latestAfter lastAfter spreadUp spreadDown times tradeReferencesOf anyTradeOff tradeReading tradeVerdict tradeJudged answers right lineM
 M = refl
 
 -- the claim over the group

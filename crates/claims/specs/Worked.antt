@@ -16,7 +16,7 @@ use Rattle.questions.specs.Missing.{referenceOf}
 use Rattle.ranges.specs.Readings.{readingOf}
 use Rattle.judging.specs.declared.Answer.{Answer}
 use Rattle.judging.specs.Answers.{answerBy}
-use Rattle.trades.specs.Trades.{dayOf, tradeJudged}
+use Rattle.trades.specs.Trades.{tradeReferencesOf, tradeJudged}
 
 -- the ladder of every line
 abbrev pub prices : List ℕ
@@ -68,7 +68,7 @@ right (order c r lowest highest tried) = answers (answerBy prices (readingOf pri
 right (low r q) = finds (lowerLimit prices r) q
 right (high r q) = finds (upperLimit prices r) q
 right (trade close lowestBid lowestAsk highestBid highestAsk lowest highest tried) =
-    answers (λ p. tradeJudged prices fivePercent p (dayOf close lowestBid lowestAsk highestBid highestAsk)) lowest highest tried
+    answers (λ p. tradeJudged prices fivePercent p (tradeReferencesOf close lowestBid lowestAsk highestBid highestAsk)) lowest highest tried
 
 abbrev pub at : ℕ → ℕ → At
 at price number = record { price = price; number = number }

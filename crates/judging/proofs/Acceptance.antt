@@ -17,7 +17,7 @@ use Rattle.judging.specs.declared.Verdict.the-variants.{Accepted, Outsid
 use Rattle.judging.specs.Shown.{passes, isShown}
 use Rattle.judging.specs.Verdicts.{outside, verdictOf}
 use Rattle.judging.specs.Numbers.{verdictNumber}
-use Rattle.judging.specs.Laws.{isJudged}
+use Rattle.judging.specs.Laws.{notRefused}
 
 -- a price on the ladder is not outside its ends
 inside : (l : List ℕ) → Rising l → (p : ℕ) → T (holds p l) → outside l p ≡ false
@@ -58,7 +58,7 @@ accepts l r range p =
     go false true true true true f = refl
 
 -- a verdict is 0 or 6 to 10
-pub judged-number : (v : Verdict) → T (isJudged (verdictNumber v))
+pub judged-number : (v : Verdict) → T (notRefused (verdictNumber v))
 judged-number Accepted = tt
 judged-number OutsideLadder = tt
 judged-number BetweenPrices = tt

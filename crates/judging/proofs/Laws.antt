@@ -27,7 +27,7 @@ use Rattle.judging.specs.Cutting.{cutLowest, cutHighest}
 use Rattle.judging.specs.Verdicts.{verdictOf}
 use Rattle.judging.specs.Numbers.{refusalNumber, verdictNumber}
 use Rattle.judging.specs.Answers.{noneShown, answerBy, judged}
-use Rattle.judging.specs.Laws.{ShownIsExactly, isJudged, SameRange, AnyOrderPrice, isQuestionNumber, isRefusal, QuestionNumbers, JudgingLaws}
+use Rattle.judging.specs.Laws.{ShownIsExactly, notRefused, SameRange, AnyOrderPrice, isQuestionNumber, isRefusal, QuestionNumbers, JudgingLaws}
 use Rattle.judging.proofs.Cuts.{window}
 use Rattle.judging.proofs.Windows.{exactly}
 use Rattle.judging.proofs.Acceptance.{accepts, judged-number}
@@ -64,7 +64,7 @@ unfolding judged
 other-bytes l percent s n = rw (ne-eqb (length s) questionBytes n)
 
 -- a refusal is not judged
-not-judged : (x : Refusal) → T (isJudged (refusalNumber x)) → ⊥
+not-judged : (x : Refusal) → T (notRefused (refusalNumber x)) → ⊥
 not-judged UnknownCode h = h
 not-judged OffLadder h = h
 not-judged Disagreement h = h

@@ -1,11 +1,11 @@
 -- The answer to a question: number, lowest and highest.
 use Prim.Native.Nat.{ℕ}
-use mathlib.Core.List.{List}
+use Rattle.ladder.specs.Ladder.{Prices}
 use Rattle.limits.specs.declared.Percentage.{Percentage}
 use Rattle.questions.specs.declared.Question.{Question}
 use Rattle.questions.specs.declared.Decoded.{Decoded}
 use Rattle.questions.specs.declared.Decoded.the-variants.{Asked, WrongLength}
-use Rattle.questions.specs.Record.{decoded}
+use Rattle.questions.specs.Record.{Bytes, decoded}
 use Rattle.ranges.specs.declared.Range.{Range}
 use Rattle.ranges.specs.declared.Reading.{Reading}
 use Rattle.ranges.specs.declared.Reading.the-variants.{Permitted, Refused}
@@ -20,23 +20,23 @@ abbrev pub noneShown : ℕ → Answer
 noneShown n = record { number = n; lowest = 0; highest = 0 }
 
 -- "Answers 0 and 6 to 10 show the range."
-abbrev pub answerOn : List ℕ → Range → ℕ → Answer
+abbrev pub answerOn : Prices → Range → ℕ → Answer
 answerOn l range p =
     record { number = verdictNumber (verdictOf l range p); lowest = shownOf l range .lowest; highest = shownOf l range .highest }
 
 -- the answer to a price, by the reading of its question
-abbrev pub answerBy : List ℕ → Reading → ℕ → Answer
+abbrev pub answerBy : Prices → Reading → ℕ → Answer
 answerBy l (Permitted range) p = answerOn l range p
 answerBy l (Refused refusal) p = noneShown (refusalNumber refusal)
 
 -- the answer to a question: by its reading, and its order price
-abbrev pub answerTo : List ℕ → Percentage → Question → Answer
+abbrev pub answerTo : Prices → Percentage → Question → Answer
 answerTo l percent q = answerBy l (readingOf l percent (q .codes) (q .references)) (q .price)
 
 -- the answer to a question as bytes. Document 01 leaves open what a single question of another length gets: 1, with 0 and 0
-abbrev pub answerDecoded : List ℕ → Percentage → Decoded → Answer
+abbrev pub answerDecoded : Prices → Percentage → Decoded → Answer
 answerDecoded l percent (Asked q) = answerTo l percent q
 answerDecoded l percent WrongLength = noneShown wrongLength
 
-unfoldable pub judged : List ℕ → Percentage → List ℕ → Answer
+unfoldable pub judged : Prices → Percentage → Bytes → Answer
 judged l percent s = answerDecoded l percent (decoded s)

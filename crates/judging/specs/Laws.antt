@@ -2,13 +2,12 @@
 use mathlib.Core.Path.{_≡_}
 use Prim.Native.Nat.{ℕ, _≤_, _<_}
 use mathlib.Core.Bool.{Bool, _&&_, _||_}
-use mathlib.Core.List.{List}
 use lib.Dec.{T, eqb, leb}
 use lib.ListN.{length, getD}
 use Rattle.ladder.specs.Bands.{Table, wellFormed}
-use Rattle.ladder.specs.Ladder.{ladder, isLadderPrice}
+use Rattle.ladder.specs.Ladder.{Prices, ladder, isLadderPrice}
 use Rattle.limits.specs.declared.Percentage.{Percentage}
-use Rattle.questions.specs.Record.{questionBytes, priceOf}
+use Rattle.questions.specs.Record.{Bytes, questionBytes, priceOf}
 use Rattle.ranges.specs.declared.Range.{Range}
 use Rattle.judging.specs.declared.Answer.{Answer}
 use Rattle.judging.specs.Shown.{isShown, shownOf}
@@ -22,18 +21,18 @@ ShownIsExactly =
     isShown range p ≡ (leb (shownOf (ladder t) range .lowest) p && leb p (shownOf (ladder t) range .highest))
 
 -- answered 0 or 6 to 10: "a question not refused for codes, references or order type"
-abbrev pub isJudged : ℕ → Bool
-isJudged n = eqb n 0 || leb 6 n && leb n 10
+abbrev pub notRefused : ℕ → Bool
+notRefused n = eqb n 0 || leb 6 n && leb n 10
 
 -- two questions that agree in all bytes but the order price's, 4 to 7
-pub record SameButPrice (s u : List ℕ) : Type 0 where
+pub record SameButPrice (s u : Bytes) : Type 0 where
   pub before : (i : ℕ) → i < 4 → getD s i 0 ≡ getD u i 0
   pub after : (i : ℕ) → 8 ≤ i → i < questionBytes → getD s i 0 ≡ getD u i 0
 
 -- what holds of u's answer: it is judged too, shows the same range, and is accepted exactly where its price is a ladder price from the
 -- lowest shown to the highest shown, and never where 0 and 0 are shown
-pub record SameRange (t : Table) (percent : Percentage) (s u : List ℕ) : Type 0 where
-  pub judged-too : T (isJudged (judged (ladder t) percent u .number))
+pub record SameRange (t : Table) (percent : Percentage) (s u : Bytes) : Type 0 where
+  pub judged-too : T (notRefused (judged (ladder t) percent u .number))
   pub lowest : judged (ladder t) percent u .lowest ≡ judged (ladder t) percent s .lowest
   pub highest : judged (ladder t) percent u .highest ≡ judged (ladder t) percent s .highest
   pub accepted :
@@ -47,23 +46,24 @@ pub record SameRange (t : Table) (percent : Percentage) (s u : List ℕ) : Type 
 -- fields kept.
 abbrev pub AnyOrderPrice : Type 0
 AnyOrderPrice =
-    (t : Table) → T (wellFormed t) → (percent : Percentage) (s u : List ℕ) → length s ≡ questionBytes → length u ≡ questionBytes →
-    SameButPrice s u → T (isJudged (judged (ladder t) percent s .number)) → SameRange t percent s u
+    (t : Table) → T (wellFormed t) → (percent : Percentage) (s u : Bytes) → length s ≡ questionBytes → length u ≡ questionBytes →
+    SameButPrice s u → T (notRefused (judged (ladder t) percent s .number)) → SameRange t percent s u
 
--- The numbers that a question can get: 0 and 2 to 10 with 40 bytes, and else 1; 1 to 5 show 0 and 0.
+-- 0 and 2 to 10; 1 to 5
 abbrev pub isQuestionNumber : ℕ → Bool
 isQuestionNumber n = eqb n 0 || leb 2 n && leb n 10
 
 abbrev pub isRefusal : ℕ → Bool
 isRefusal n = leb 1 n && leb n 5
 
-pub record Numbers (a : Answer) (s : List ℕ) : Type 0 where
+-- The numbers that a question can get: 0 and 2 to 10 with 40 bytes, and else 1; 1 to 5 show 0 and 0.
+pub record Numbers (a : Answer) (s : Bytes) : Type 0 where
   pub of-a-question : length s ≡ questionBytes → T (isQuestionNumber (a .number))
   pub of-other-bytes : (length s ≡ questionBytes → ⊥) → a ≡ noneShown 1
   pub refused : T (isRefusal (a .number)) → a ≡ noneShown (a .number)
 
 abbrev pub QuestionNumbers : Type 0
-QuestionNumbers = (l : List ℕ) (percent : Percentage) (s : List ℕ) → Numbers (judged l percent s) s
+QuestionNumbers = (l : Prices) (percent : Percentage) (s : Bytes) → Numbers (judged l percent s) s
 
 -- All of them.
 pub record JudgingLaws : Type 0 where

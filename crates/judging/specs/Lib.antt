@@ -1,4 +1,5 @@
--- The verdict on a price and the answer to a question, and their laws. To be read in this order; Cutting is for the code only.
+-- The verdict on a price and the answer to a question, and their laws. To be read in this order; the notation is explained
+-- in crates/ladder/specs/Lib.antt.
 pub mod Shown
 pub mod Verdicts
 pub mod Numbers

@@ -18,7 +18,7 @@ refusalNumber OffLadder = 3
 refusalNumber Disagreement = 4
 refusalNumber NoOpposite = 5
 
--- 0 for a reading that has a range
+-- 0 for a reading that is not refused: there is no verdict yet
 abbrev pub readingNumber : Reading → ℕ
 readingNumber (Permitted range) = 0
 readingNumber (Refused refusal) = refusalNumber refusal

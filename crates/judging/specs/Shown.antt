@@ -1,8 +1,8 @@
 -- The nine-fold rule, and the shown range. Over any ladder l, the list of its prices, and any three numbers as a range.
 use Prim.Native.Nat.{ℕ, _*_}
 use mathlib.Core.Bool.{Bool, true, _&&_}
-use mathlib.Core.List.{List}
 use lib.Dec.{leb, ltb}
+use Rattle.ladder.specs.Ladder.{Prices}
 use Rattle.ladder.specs.Search.{first, latest, orElse}
 use Rattle.questions.specs.declared.Reference.{Reference}
 use Rattle.questions.specs.declared.Reference.the-variants.{Missing, Price}
@@ -20,5 +20,5 @@ isShown range p = leb (range .lowest) p && leb p (range .highest) && passes (ran
 
 -- "The shown range is the ladder prices that are in the permitted range and pass the nine-fold rule. If there are none, 0 and 0 are
 -- shown.": the first of them and the last, going through the ladder. The law ShownIsExactly says that no other lies between.
-unfoldable pub shownOf : List ℕ → Range → Shown
+unfoldable pub shownOf : Prices → Range → Shown
 shownOf l range = record { lowest = orElse 0 (first (isShown range) l); highest = orElse 0 (latest (isShown range) l) }

@@ -1,9 +1,9 @@
 -- The verdict on a price against a permitted range. "Checks run in number order; the first that applies is the answer."
--- All of these are caused by the client who enters the order.
+-- Each of these checks is caused by the client who enters the order.
 use Prim.Native.Nat.{ℕ}
 use mathlib.Core.Bool.{Bool, not, cond, _||_}
-use mathlib.Core.List.{List}
 use lib.Dec.{ltb}
+use Rattle.ladder.specs.Ladder.{Prices}
 use Rattle.ladder.specs.Search.{holds}
 use Rattle.ladder.specs.Places.{firstPrice, lastPrice}
 use Rattle.ranges.specs.declared.Range.{Range}
@@ -12,12 +12,12 @@ use Rattle.judging.specs.declared.Verdict.the-variants.{Accepted, Outsid
 use Rattle.judging.specs.Shown.{passes}
 
 -- 6: "price under 0.010 or over 9,995.000": the ends of the ladder
-abbrev pub outside : List ℕ → ℕ → Bool
+abbrev pub outside : Prices → ℕ → Bool
 outside l p = ltb p (firstPrice l) || ltb (lastPrice l) p
 
--- 7: "price between two ladder prices"
-abbrev pub between : List ℕ → ℕ → Bool
-between l p = not (holds p l)
+-- 7: "price between two ladder prices": off the ladder, but within its ends, since check 6 comes first
+abbrev pub offLadder : Prices → ℕ → Bool
+offLadder l p = not (holds p l)
 
 -- 8: "price below the permitted lowest"
 abbrev pub belowLowest : Range → ℕ → Bool
@@ -31,10 +31,10 @@ aboveHighest range p = ltb (range .highest) p
 abbrev pub failsNineFold : Range → ℕ → Bool
 failsNineFold range p = not (passes (range .«nine_fold») p)
 
-unfoldable pub verdictOf : List ℕ → Range → ℕ → Verdict
+unfoldable pub verdictOf : Prices → Range → ℕ → Verdict
 verdictOf l range p =
     cond (outside l p) OutsideLadder
-    (cond (between l p) BetweenPrices
+    (cond (offLadder l p) BetweenPrices
     (cond (belowLowest range p) BelowLowest
     (cond (aboveHighest range p) AboveHighest
     (cond (failsNineFold range p) NineFold

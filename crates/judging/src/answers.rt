@@ -1,4 +1,4 @@
-// Numbers and answers.
+// The numbers of readings and verdicts, and the answers.
 use super::Answer;
 use super::Verdict;
 use super::showing;
@@ -16,7 +16,7 @@ ghost use Rattle.ladder.specs.Layout.{isTable, pricesOf};
 ghost use Rattle.judging.specs.Numbers.{refusalNumber, readingNumber, verdictNumber};
 ghost use Rattle.judging.specs.Answers.{noneShown, answerOn, judged};
 
-// The number of bytes is not that of a question.
+// The answer number for bytes that are no question.
 const WRONG_LENGTH: u32 = 1;
 
 // The number of a refusal.
@@ -31,7 +31,7 @@ pub fn refusal_number(refusal: Refusal) -> u32
     }
 }
 
-// The number of a reading: 0 where there is a range.
+// The number of a reading: 0 where it is not refused, and no verdict is given yet.
 pub fn reading_number(reading: Reading) -> u32
     ensures { λ r. ⌜ r ≡ readingNumber reading ⌝ }
 {

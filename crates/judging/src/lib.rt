@@ -1,10 +1,10 @@
 // Judging a question: its reading, the verdict on its order price, and the answer.
 //
-// The calls of this file use the Phase 1 table and 5 percent. Those of `showing`, `verdicts` and `answers` are lent a table; their
-// contracts hold for every well-formed table. Prices are whole mils.
+// The calls of this file use the Phase 1 table and 5 percent. Functions of `showing`, `verdicts` and `answers` that are lent a table
+// hold for every well-formed one. Prices are whole mils.
 pub mod showing; // showing.rt: the nine-fold rule and the shown range
 pub mod verdicts; // verdicts.rt: the verdict on a price
-pub mod answers; // answers.rt: numbers and answers
+pub mod answers; // answers.rt: the numbers of readings and verdicts, and the answers
 
 use limits::five_percent;
 use questions::Codes;
@@ -55,7 +55,7 @@ pub fn reading_of(codes: Codes, references: References) -> Reading
     readings::reading_of(&table, five_percent(), codes, references)
 }
 
-// The answer to a price against a range: 0 or 6 to 10, with the range shown. The three numbers of the range may be any.
+// The answer to a price against a range: 0 or 6 to 10, with the range shown. The range may be any.
 pub fn answer_on(range: Range, price: u32) -> Answer
     ensures { λ r. ⌜ r ≡ answerOn (ladder phase1) range price ⌝ }
 {

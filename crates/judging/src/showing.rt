@@ -24,7 +24,7 @@ pub fn does_pass(nine_fold: Reference, price: u32) -> bool
     }
 }
 
-// The lowest number that may pass.
+// The lowest price of a range, raised to the first number that the nine-fold rule lets pass.
 fn cut_lowest(lowest: u32, nine_fold: Reference) -> u32
     ensures { λ r. ⌜ r ≡ cutLowest lowest «nine_fold» ⌝ }
 {
@@ -45,7 +45,7 @@ fn below_nine_times(highest: u32, n: u32) -> u32
     if bound == 0 { 0 } else { (bound - 1) as u32 }
 }
 
-// The highest number that may pass.
+// The highest price of a range, lowered to the last number that the nine-fold rule lets pass.
 fn cut_highest(highest: u32, nine_fold: Reference) -> u32
     ensures { λ r. ⌜ r ≡ cutHighest highest «nine_fold» ⌝ }
 {

@@ -6,22 +6,26 @@ use lib.Dec.{eqb, ltb, leb}
 use Rattle.ladder.specs.declared.Band.{Band}
 use Rattle.ladder.specs.Bands.{Table}
 
+-- prices of a ladder, from the first to the last
+abbrev pub Prices : Type 0
+Prices = List ℕ
+
 -- how many spreads wide a band is
 abbrev pub width : Band → ℕ
 width b = (b .top - b .bottom) / b .spread
 
 -- the next n prices above a, a spread s apart
-unfoldable pub rungs : ℕ → ℕ → ℕ → List ℕ
+unfoldable pub rungs : ℕ → ℕ → ℕ → Prices
 rungs s a zero = []
 rungs s a (suc n) = (a + s) ∷ rungs s (a + s) n
 
 -- the prices that the bands hold, band by band
-unfoldable pub bandPrices : Table → List ℕ
+unfoldable pub bandPrices : Table → Prices
 bandPrices [] = []
 bandPrices (b ∷ bs) = rungs (b .spread) (b .bottom) (width b) ++ bandPrices bs
 
 -- the ladder: the first bottom, and every price that a band holds
-unfoldable pub ladder : Table → List ℕ
+unfoldable pub ladder : Table → Prices
 ladder [] = []
 ladder (b ∷ bs) = b .bottom ∷ bandPrices (b ∷ bs)
 

@@ -1,8 +1,12 @@
 -- What the ladder means, to be read in this order. A reader who believes these files, and the contracts that cite them, needs no proof.
 --
 -- Document 01 is the customer's paper on spreads and limits; words in quotation marks are its own.
--- `declared.X` is the struct or enum X of src/. `T b` says that the test b passes. `cond b x y` is x where b is true, and else y.
--- A `let` in a definition only keeps a search from computing on when it has found something.
+--
+-- Notation. `declared.X` is the struct or enum X of src/; `r .x` is its field x, and a name with a bar in it stands in «..».
+-- `eqb a b`, `ltb a b`, `leb a b` test a = b, a < b, a <= b; `T b` says that the test b passes; `cond b x y` is x where b is true, and
+-- else y. `a ≡ b` says that a is b, `A × B` that both hold, `A → ⊥` that A never holds. `getD s i 0` is entry i of the list s.
+-- `abbrev` and `unfoldable` only tell the prover when to open a definition, and a `let` keeps a search from computing on when it has
+-- found something.
 pub mod Bands
 pub mod Ladder
 pub mod Search

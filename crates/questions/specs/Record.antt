@@ -11,24 +11,27 @@ use Rattle.questions.specs.declared.Decoded.{Decoded}
 use Rattle.questions.specs.declared.Decoded.the-variants.{Asked, WrongLength}
 use Rattle.questions.specs.Missing.{referenceOf}
 
+abbrev pub Bytes : Type 0
+Bytes = List ℕ
+
 -- how many bytes a question has
 abbrev pub questionBytes : ℕ
 questionBytes = 40
 
 -- the 4-byte little-endian number from a byte on
-abbrev pub number : ℕ → List ℕ → ℕ
+abbrev pub number : ℕ → Bytes → ℕ
 number at s = getD s at 0 + getD s (at + 1) 0 * 256 + getD s (at + 2) 0 * 65536 + getD s (at + 3) 0 * 16777216
 
 -- "Byte 0 is the side .. byte 1 the order type .. byte 2 the queue code .. byte 3 is zero."
-unfoldable pub codesOf : List ℕ → Codes
+unfoldable pub codesOf : Bytes → Codes
 codesOf s = record { side = getD s 0 0; «order_type» = getD s 1 0; queue = getD s 2 0; «byte_3» = getD s 3 0 }
 
 -- "Then nine 4-byte little-endian mils: order price, current bid, current ask, last bid, last ask, previous close, day low, day high
 -- (transacted prices), nominal price."
-abbrev pub priceOf : List ℕ → ℕ
+abbrev pub priceOf : Bytes → ℕ
 priceOf s = number 4 s
 
-unfoldable pub referencesOf : List ℕ → References
+unfoldable pub referencesOf : Bytes → References
 referencesOf s =
     record {
       «current_bid» = referenceOf (number 8 s);
@@ -41,9 +44,9 @@ referencesOf s =
       nominal = referenceOf (number 36 s);
     }
 
-abbrev pub questionOf : List ℕ → Question
+abbrev pub questionOf : Bytes → Question
 questionOf s = record { codes = codesOf s; price = priceOf s; references = referencesOf s }
 
 -- bytes of any other number are no question
-abbrev pub decoded : List ℕ → Decoded
+abbrev pub decoded : Bytes → Decoded
 decoded s = cond (eqb (length s) questionBytes) (Asked (questionOf s)) WrongLength

@@ -1,4 +1,5 @@
--- "The side, order type and queue code together choose the range": the rule, and the queues with the prices that count.
+-- "The side, order type and queue code together choose the range": the rule, and the queues with the
+-- current or last bid and ask that the rules look at.
 use Prim.Native.Nat.{ℕ}
 use mathlib.Core.Bool.{Bool, not, cond, _||_}
 use lib.Dec.{eqb}
@@ -14,20 +15,20 @@ use Rattle.questions.specs.declared.Choice.{Choice}
 use Rattle.questions.specs.declared.Choice.the-variants.{Chosen, Unknown}
 
 -- "the side (1 buy, 2 sell)"
-abbrev pub isSide : ℕ → Bool
-isSide n = eqb n 1 || eqb n 2
+abbrev pub knownSide : ℕ → Bool
+knownSide n = eqb n 1 || eqb n 2
 
 -- "the order type (1 limit, 2 enhanced limit, 3 special limit)"
-abbrev pub isType : ℕ → Bool
-isType n = eqb n 1 || eqb n 2 || eqb n 3
+abbrev pub knownType : ℕ → Bool
+knownType n = eqb n 1 || eqb n 2 || eqb n 3
 
 -- "the queue code (1 opening: no bid and no ask yet today; 2 both queues; 3 buy only; 4 sell only; 5 neither)"
-abbrev pub isQueue : ℕ → Bool
-isQueue n = eqb n 1 || eqb n 2 || eqb n 3 || eqb n 4 || eqb n 5
+abbrev pub knownQueue : ℕ → Bool
+knownQueue n = eqb n 1 || eqb n 2 || eqb n 3 || eqb n 4 || eqb n 5
 
 -- The calling program. 2: "side, type or queue code unknown, or byte 3 not zero"
 abbrev pub unknownCode : Codes → Bool
-unknownCode c = not (isSide (c .side)) || not (isType (c .«order_type»)) || not (isQueue (c .queue)) || not (eqb (c .«byte_3») 0)
+unknownCode c = not (knownSide (c .side)) || not (knownType (c .«order_type»)) || not (knownQueue (c .queue)) || not (eqb (c .«byte_3») 0)
 
 -- the rule of a known side and type
 abbrev pub byType : ℕ → Rule → Rule → Rule → Rule

@@ -5,7 +5,7 @@ ghost use lib.ListN.{length};
 ghost use Rattle.questions.specs.Record.{number};
 
 // The number of four bytes, the lowest first.
-pub fn from_bytes(a: u8, b: u8, c: u8, d: u8) -> u32
+fn from_bytes(a: u8, b: u8, c: u8, d: u8) -> u32
     ensures { λ r. ⌜ r ≡ a + b * 256 + c * 65536 + d * 16777216 ⌝ }
 {
     (a as u32) + (b as u32) * 256 + (c as u32) * 65536 + (d as u32) * 16777216

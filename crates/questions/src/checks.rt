@@ -8,7 +8,7 @@ use ladder::places;
 ghost use mathlib.Core.Path.{_≡_};
 ghost use lib.Dec.{T};
 ghost use Rattle.ladder.specs.Layout.{isTable, pricesOf};
-ghost use Rattle.questions.specs.Checks.{buyQueue, sellQueue, differ, isOff, anyOff, crossed, quotedBefore, unpaired, disagree, unopposed};
+ghost use Rattle.questions.specs.Checks.{buyQueue, sellQueue, differ, isOff, anyOff, lockedOrCrossed, quotedBefore, badPair, disagree, unopposed};
 
 // Whether a reference is present, but no ladder price.
 pub fn is_off(table: &[u32], reference: Reference) -> bool
@@ -75,8 +75,8 @@ fn are_different(a: bool, b: bool) -> bool
 }
 
 // With both queues: whether the bid is not below the ask.
-fn is_crossed(queues: Queues) -> bool
-    ensures { λ r. ⌜ r ≡ crossed queues ⌝ }
+fn is_locked_or_crossed(queues: Queues) -> bool
+    ensures { λ r. ⌜ r ≡ lockedOrCrossed queues ⌝ }
 {
     match queues {
         Queues::Opening => false,
@@ -101,8 +101,8 @@ fn is_quoted_before(queues: Queues, last_bid: Reference, last_ask: Reference) ->
 }
 
 // Whether a low is given without a high, or the reverse, or is above it.
-pub fn are_unpaired(low: Reference, high: Reference) -> bool
-    ensures { λ r. ⌜ r ≡ unpaired low high ⌝ }
+pub fn is_bad_pair(low: Reference, high: Reference) -> bool
+    ensures { λ r. ⌜ r ≡ badPair low high ⌝ }
 {
     are_different(missing::is_present(low), missing::is_present(high))
         | missing::is_below(high, low)
@@ -120,9 +120,9 @@ pub fn do_disagree(queues: Queues, references: References) -> bool
     let day_high = references.day_high;
     are_different(has_buy_queue(queues), missing::is_present(current_bid))
         | are_different(has_sell_queue(queues), missing::is_present(current_ask))
-        | is_crossed(queues)
+        | is_locked_or_crossed(queues)
         | is_quoted_before(queues, last_bid, last_ask)
-        | are_unpaired(day_low, day_high)
+        | is_bad_pair(day_low, day_high)
 }
 
 // Whether a special order has no opposite queue.

@@ -51,7 +51,7 @@ pub enum Decoded {
     WrongLength,
 }
 
-// The queues, as the queue code tells of them, each with the prices that count then.
+// The queues, as the queue code tells of them, with the current or last bid and ask that the rules look at then.
 pub enum Queues {
     // No bid and no ask yet today.
     Opening,
@@ -65,7 +65,7 @@ pub enum Queues {
     Neither(Reference, Reference),
 }
 
-// The rule for an order, by its side and type.
+// The rule for an order, by its side and type. With the queues, which the queue code chooses, it gives the permitted range.
 pub enum Rule {
     BuyLimit,
     BuyEnhanced,

@@ -9,10 +9,9 @@ pub fn reference_of(number: u32) -> Reference
     ensures { λ r. ⌜ r ≡ referenceOf number ⌝ }
 {
     if number == 0 {
-        Reference::Missing
-    } else {
-        Reference::Price(number)
+        return Reference::Missing;
     }
+    Reference::Price(number)
 }
 
 // Whether a reference is a price.

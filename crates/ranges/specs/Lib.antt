@@ -1,4 +1,5 @@
--- The permitted range of a question, and its reading: the range, or why there is none. To be read in this order.
+-- The permitted range of a question, and its reading: the range, or why there is none. To be read in this
+-- order; the notation is explained in crates/ladder/specs/Lib.antt.
 pub mod Bounds
 pub mod Permitted
 pub mod Readings

@@ -1,7 +1,7 @@
 -- The permitted range: "The side, order type and queue code together choose the range."
 use Prim.Native.Nat.{ℕ}
 use mathlib.Core.Bool.{not, cond, _&&_}
-use mathlib.Core.List.{List}
+use Rattle.ladder.specs.Ladder.{Prices}
 use Rattle.limits.specs.declared.Percentage.{Percentage}
 use Rattle.questions.specs.declared.Reference.{Reference}
 use Rattle.questions.specs.declared.Reference.the-variants.{Missing}
@@ -13,7 +13,7 @@ use Rattle.questions.specs.declared.Rule.the-variants.{BuyLimit, BuyEnhanced, B
 use Rattle.questions.specs.Missing.{present, least, greatest, priceOr}
 use Rattle.questions.specs.Rules.{askOf, bidOf}
 use Rattle.ranges.specs.declared.Range.{Range}
-use Rattle.ranges.specs.Bounds.{Low, High, nineAbove, nineBelow, bottom, top}
+use Rattle.ranges.specs.Bounds.{Low, High, nineSpreadsAbove, nineSpreadsBelow, bottom, top}
 
 -- Buy, lowest: the lower limit of this reference, or bottom where it is missing.
 --   opening: the previous close;
@@ -28,6 +28,10 @@ buyReference (SellOnly ask) close low = least ask (least close low)
 buyReference (Neither lastBid lastAsk) close low = cond (not (present close) && not (present low)) Missing (least lastAsk (least close low))
 
 -- Sell, highest, the mirror: the upper limit of this reference, or top where it is missing.
+--   opening: the previous close;
+--   both, or sell only: the current ask;
+--   buy only: the greatest of current bid, previous close, day high;
+--   neither: the greatest of last bid, previous close, day high, but none if both previous close and day high are missing.
 abbrev pub sellReference : Queues → Reference → Reference → Reference
 sellReference Opening close high = close
 sellReference (Both bid ask) close high = ask
@@ -35,43 +39,43 @@ sellReference (SellOnly ask) close high = ask
 sellReference (BuyOnly bid) close high = greatest bid (greatest close high)
 sellReference (Neither lastBid lastAsk) close high = cond (not (present close) && not (present high)) Missing (greatest lastBid (greatest close high))
 
-abbrev pub buyLowest : List ℕ → Percentage → Queues → References → ℕ
+abbrev pub buyLowest : Prices → Percentage → Queues → References → ℕ
 buyLowest l percent q r = priceOr (bottom l) (Low l percent (buyReference q (r .«previous_close») (r .«day_low»)))
 
-abbrev pub sellHighest : List ℕ → Percentage → Queues → References → ℕ
+abbrev pub sellHighest : Prices → Percentage → Queues → References → ℕ
 sellHighest l percent q r = priceOr (top l) (High l percent (sellReference q (r .«previous_close») (r .«day_high»)))
 
--- The permitted lowest. The ask of a special buy is there: without a sell queue check 5 refuses it.
-unfoldable pub lowestOf : List ℕ → Percentage → Rule → Queues → References → ℕ
+-- The permitted lowest. A special buy has an ask: check 5 asks for the sell queue, and check 4 for its price.
+unfoldable pub lowestOf : Prices → Percentage → Rule → Queues → References → ℕ
 lowestOf l percent BuyLimit q r = buyLowest l percent q r
 lowestOf l percent BuyEnhanced q r = buyLowest l percent q r
 lowestOf l percent BuySpecial q r = priceOr (bottom l) (askOf q)
 lowestOf l percent SellLimit q r = priceOr (bottom l) (bidOf q)
-lowestOf l percent SellEnhanced q r = priceOr (bottom l) (nineBelow l (bidOf q))
+lowestOf l percent SellEnhanced q r = priceOr (bottom l) (nineSpreadsBelow l (bidOf q))
 lowestOf l percent SellSpecial q r = bottom l
 
--- The permitted highest.
-unfoldable pub highestOf : List ℕ → Percentage → Rule → Queues → References → ℕ
+-- The permitted highest. A special sell has a bid, likewise.
+unfoldable pub highestOf : Prices → Percentage → Rule → Queues → References → ℕ
 highestOf l percent BuyLimit q r = priceOr (top l) (askOf q)
-highestOf l percent BuyEnhanced q r = priceOr (top l) (nineAbove l (askOf q))
+highestOf l percent BuyEnhanced q r = priceOr (top l) (nineSpreadsAbove l (askOf q))
 highestOf l percent BuySpecial q r = top l
 highestOf l percent SellLimit q r = sellHighest l percent q r
 highestOf l percent SellEnhanced q r = sellHighest l percent q r
 highestOf l percent SellSpecial q r = priceOr (top l) (bidOf q)
 
 -- The reference of the nine-fold rule: "the previous close for opening, else the nominal".
-abbrev pub nineFold : Queues → Reference → Reference → Reference
-nineFold Opening close nominal = close
-nineFold (Both bid ask) close nominal = nominal
-nineFold (BuyOnly bid) close nominal = nominal
-nineFold (SellOnly ask) close nominal = nominal
-nineFold (Neither lastBid lastAsk) close nominal = nominal
+abbrev pub nineFoldReference : Queues → Reference → Reference → Reference
+nineFoldReference Opening close nominal = close
+nineFoldReference (Both bid ask) close nominal = nominal
+nineFoldReference (BuyOnly bid) close nominal = nominal
+nineFoldReference (SellOnly ask) close nominal = nominal
+nineFoldReference (Neither lastBid lastAsk) close nominal = nominal
 
 -- the permitted range
-unfoldable pub rangeOf : List ℕ → Percentage → Rule → Queues → References → Range
+unfoldable pub rangeOf : Prices → Percentage → Rule → Queues → References → Range
 rangeOf l percent rule q r =
     record {
       lowest = lowestOf l percent rule q r;
       highest = highestOf l percent rule q r;
-      «nine_fold» = nineFold q (r .«previous_close») (r .nominal);
+      «nine_fold» = nineFoldReference q (r .«previous_close») (r .nominal);
     }

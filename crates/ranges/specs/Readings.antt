@@ -1,29 +1,34 @@
--- The reading of a question: checks 2 to 5 in number order, then the permitted range. The order price plays no part in it.
-use Prim.Native.Nat.{ℕ}
+-- The reading of a question: "Checks run in number order; the first that applies is the answer". Checks 2 to 5, then the permitted
+-- range. The order price plays no part in it.
 use mathlib.Core.Bool.{cond}
-use mathlib.Core.List.{List}
+use Rattle.ladder.specs.Ladder.{Prices}
 use Rattle.limits.specs.declared.Percentage.{Percentage}
 use Rattle.questions.specs.declared.Codes.{Codes}
 use Rattle.questions.specs.declared.References.{References}
 use Rattle.questions.specs.declared.Queues.{Queues}
 use Rattle.questions.specs.declared.Rule.{Rule}
-use Rattle.questions.specs.Rules.{unknownCode, ruleOf, queuesOf}
+use Rattle.questions.specs.declared.Choice.{Choice}
+use Rattle.questions.specs.declared.Choice.the-variants.{Chosen, Unknown}
+use Rattle.questions.specs.Rules.{chosen}
 use Rattle.questions.specs.Checks.{anyOff, disagree, unopposed}
 use Rattle.ranges.specs.declared.Refusal.the-variants.{UnknownCode, OffLadder, Disagreement, NoOpposite}
 use Rattle.ranges.specs.declared.Reading.{Reading}
 use Rattle.ranges.specs.declared.Reading.the-variants.{Permitted, Refused}
 use Rattle.ranges.specs.Permitted.{rangeOf}
 
--- checks 3 to 5, of a question whose rule and queues are known
-unfoldable pub readingBy : List ℕ → Percentage → Rule → Queues → References → Reading
+-- checks 3 to 5, of a question whose codes choose a rule and queues
+unfoldable pub readingBy : Prices → Percentage → Rule → Queues → References → Reading
 readingBy l percent rule q r =
     cond (anyOff l r) (Refused OffLadder)
     (cond (disagree q r) (Refused Disagreement)
     (cond (unopposed rule q) (Refused NoOpposite)
     (Permitted (rangeOf l percent rule q r))))
 
--- check 2 before them: "Checks run in number order; the first that applies is the answer"
-unfoldable pub readingOf : List ℕ → Percentage → Codes → References → Reading
-readingOf l percent c r =
-    cond (unknownCode c) (Refused UnknownCode)
-    (readingBy l percent (ruleOf (c .side) (c .«order_type»)) (queuesOf (c .queue) r) r)
+-- check 2 before them: the codes choose nothing
+abbrev pub readingOn : Prices → Percentage → Choice → References → Reading
+readingOn l percent Unknown r = Refused UnknownCode
+readingOn l percent (Chosen rule q) r = readingBy l percent rule q r
+
+-- the reading of codes and references
+unfoldable pub readingOf : Prices → Percentage → Codes → References → Reading
+readingOf l percent c r = readingOn l percent (chosen c r) r

@@ -1,4 +1,5 @@
-// The two limits of a reference, and nine spreads from it. What is missing stays missing.
+// The two limits of a reference, and nine spreads from it. Each is missing where the reference is missing, and from a price off the
+// ladder too, which check 3 refuses before.
 use ladder::Found;
 use ladder::steps;
 use limits::Percentage;
@@ -7,14 +8,14 @@ use questions::Reference;
 ghost use mathlib.Core.Path.{_≡_};
 ghost use lib.Dec.{T};
 ghost use Rattle.ladder.specs.Layout.{isTable, pricesOf};
-ghost use Rattle.ranges.specs.Bounds.{reference, Low, High, nineAbove, nineBelow};
+ghost use Rattle.ranges.specs.Bounds.{asReference, Low, High, nineSpreadsAbove, nineSpreadsBelow};
 
 // How many spreads an enhanced limit order may go beyond the opposite queue.
-const NINE: u64 = 9;
+const ENHANCED_SPREADS: u64 = 9;
 
 // What was found, as a reference.
 fn reference_found(found: Found) -> Reference
-    ensures { λ r. ⌜ r ≡ reference found ⌝ }
+    ensures { λ r. ⌜ r ≡ asReference found ⌝ }
 {
     match found {
         Found::Price(price) => Reference::Price(price),
@@ -49,23 +50,23 @@ pub fn high(table: &[u32], percentage: Percentage, reference: Reference) -> Refe
 }
 
 // Nine spreads above a reference.
-pub fn nine_above(table: &[u32], reference: Reference) -> Reference
+pub fn nine_spreads_above(table: &[u32], reference: Reference) -> Reference
     requires { ⌜ T (isTable (now table)) ⌝ }
-    ensures { λ r. ⌜ r ≡ nineAbove (pricesOf (now (table .entry))) reference ⌝ }
+    ensures { λ r. ⌜ r ≡ nineSpreadsAbove (pricesOf (now (table .entry))) reference ⌝ }
 {
     match reference {
         Reference::Missing => Reference::Missing,
-        Reference::Price(price) => reference_found(steps::up(table, price, NINE)),
+        Reference::Price(price) => reference_found(steps::up(table, price, ENHANCED_SPREADS)),
     }
 }
 
 // Nine spreads below a reference.
-pub fn nine_below(table: &[u32], reference: Reference) -> Reference
+pub fn nine_spreads_below(table: &[u32], reference: Reference) -> Reference
     requires { ⌜ T (isTable (now table)) ⌝ }
-    ensures { λ r. ⌜ r ≡ nineBelow (pricesOf (now (table .entry))) reference ⌝ }
+    ensures { λ r. ⌜ r ≡ nineSpreadsBelow (pricesOf (now (table .entry))) reference ⌝ }
 {
     match reference {
         Reference::Missing => Reference::Missing,
-        Reference::Price(price) => reference_found(steps::down(table, price, NINE)),
+        Reference::Price(price) => reference_found(steps::down(table, price, ENHANCED_SPREADS)),
     }
 }

@@ -1,8 +1,8 @@
 // The reading of a question: the range that the rules permit, or why it has none.
 //
-// Every function here is lent a table, and takes a percentage; the contracts hold for every well-formed table and any percentage.
+// Functions that are lent a table hold for every well-formed one, and those that take a percentage for any.
 pub mod bounds; // bounds.rt: limits and nine spreads of a reference
-pub mod permitted; // permitted.rt: the permitted range
+mod permitted; // permitted.rt: the permitted range
 pub mod readings; // readings.rt: the reading of a question
 
 use questions::Reference;
@@ -14,15 +14,15 @@ pub struct Range {
     pub nine_fold: Reference,
 }
 
-// Why there is no range.
+// Why there is no range, with document 01's number.
 pub enum Refusal {
-    // Side, order type or queue code unknown, or byte 3 not zero.
+    // 2: side, order type or queue code unknown, or byte 3 not zero.
     UnknownCode,
-    // A reference that is present but no ladder price.
+    // 3: a reference that is present but no ladder price.
     OffLadder,
-    // References that disagree with the queue code, or with each other.
+    // 4: references that disagree with the queue code, or with each other.
     Disagreement,
-    // A special limit order with no opposite queue.
+    // 5: a special limit order with no opposite queue.
     NoOpposite,
 }
 

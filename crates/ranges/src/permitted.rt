@@ -12,7 +12,7 @@ use questions::rules;
 ghost use mathlib.Core.Path.{_≡_};
 ghost use lib.Dec.{T};
 ghost use Rattle.ladder.specs.Layout.{isTable, pricesOf};
-ghost use Rattle.ranges.specs.Permitted.{buyReference, sellReference, buyLowest, sellHighest, lowestOf, highestOf, nineFold, rangeOf};
+ghost use Rattle.ranges.specs.Permitted.{buyReference, sellReference, buyLowest, sellHighest, lowestOf, highestOf, nineFoldReference, rangeOf};
 
 // The reference whose lower limit is the lowest price of a buy; missing where that is the bottom.
 fn buy_reference(queues: Queues, close: Reference, low: Reference) -> Reference
@@ -97,7 +97,7 @@ fn lowest_of(
         Rule::BuySpecial => missing::price_or(rules::ask_of(queues), bottom),
         Rule::SellLimit => missing::price_or(rules::bid_of(queues), bottom),
         Rule::SellEnhanced => missing::price_or(
-            bounds::nine_below(table, rules::bid_of(queues)),
+            bounds::nine_spreads_below(table, rules::bid_of(queues)),
             bottom,
         ),
         Rule::SellSpecial => bottom,
@@ -119,7 +119,7 @@ fn highest_of(
     match rule {
         Rule::BuyLimit => missing::price_or(rules::ask_of(queues), top),
         Rule::BuyEnhanced => missing::price_or(
-            bounds::nine_above(table, rules::ask_of(queues)),
+            bounds::nine_spreads_above(table, rules::ask_of(queues)),
             top,
         ),
         Rule::BuySpecial => top,
@@ -130,8 +130,8 @@ fn highest_of(
 }
 
 // The reference of the nine-fold rule.
-fn nine_fold_of(queues: Queues, close: Reference, nominal: Reference) -> Reference
-    ensures { λ r. ⌜ r ≡ nineFold queues close nominal ⌝ }
+fn nine_fold_reference(queues: Queues, close: Reference, nominal: Reference) -> Reference
+    ensures { λ r. ⌜ r ≡ nineFoldReference queues close nominal ⌝ }
 {
     match queues {
         Queues::Opening => close,
@@ -143,7 +143,7 @@ fn nine_fold_of(queues: Queues, close: Reference, nominal: Reference) -> Referen
 }
 
 // The range that a rule permits.
-pub fn range_of(
+pub(crate) fn range_of(
     table: &[u32],
     percentage: Percentage,
     rule: Rule,
@@ -157,7 +157,7 @@ pub fn range_of(
     let nominal = references.nominal;
     let lowest = lowest_of(table, percentage, rule, queues, references);
     let highest = highest_of(table, percentage, rule, queues, references);
-    let nine_fold = nine_fold_of(queues, close, nominal);
+    let nine_fold = nine_fold_reference(queues, close, nominal);
     Range {
         lowest,
         highest,

@@ -12,8 +12,8 @@ use Rattle.ranges.specs.declared.Refusal.the-variants.{OffLadder, Disagreement}
 use Rattle.judging.specs.declared.Verdict.the-variants.{Accepted, OutsideLadder, BelowLowest, AboveHighest}
 use Rattle.judging.specs.Verdicts.{outside, belowLowest, aboveHighest}
 use Rattle.judging.specs.Numbers.{verdictNumber}
-use Rattle.trades.specs.declared.Day.{Day}
-use Rattle.trades.specs.Trades.{dayOff, dayDisagrees, tradeRange, tradeReading, tradeVerdict, tradeBy, tradeJudged}
+use Rattle.trades.specs.declared.TradeReferences.{TradeReferences}
+use Rattle.trades.specs.Trades.{anyTradeOff, tradeDisagrees, tradeRange, tradeReading, tradeVerdict, tradeBy, tradeJudged}
 use Rattle.trades.specs.Laws.{Numbers, TradeNumbers}
 
 -- a trade with a range gets 0, 6, 8 or 9
@@ -30,7 +30,7 @@ priced l range p = go (outside l p) (belowLowest range p) (aboveHighest range p)
 
 pub trade-numbers : TradeNumbers
 unfolding tradeJudged tradeReading
-trade-numbers l percent p d = go (dayOff l d) (dayDisagrees d)
+trade-numbers l percent p d = go (anyTradeOff l d) (tradeDisagrees d)
   where
     go : (off disagrees : Bool) →
         Numbers (tradeBy l (cond off (Refused OffLadder) (cond disagrees (Refused Disagreement) (Permitted (tradeRange l percent d)))) p)

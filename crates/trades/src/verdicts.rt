@@ -1,5 +1,5 @@
 // The verdict on a trade price, and the answer.
-use super::Day;
+use super::TradeReferences;
 use super::readings;
 use judging::Answer;
 use judging::Verdict;
@@ -13,7 +13,7 @@ ghost use lib.Dec.{T};
 ghost use Rattle.ladder.specs.Layout.{isTable, pricesOf};
 ghost use Rattle.trades.specs.Trades.{tradeVerdict, tradeJudged};
 
-// The verdict on a trade price: checks 6, 8 and 9. It need not be a ladder price.
+// The verdict on a trade price: checks 6, 8 and 9. It need not be a ladder price, and the nine-fold rule is not for trades.
 pub fn verdict_on(table: &[u32], range: Range, price: u32) -> Verdict
     requires { ⌜ T (isTable (now table)) ⌝ }
     ensures { λ r. ⌜ r ≡ tradeVerdict (pricesOf (now (table .entry))) range price ⌝ }
@@ -31,11 +31,16 @@ pub fn verdict_on(table: &[u32], range: Range, price: u32) -> Verdict
 }
 
 // The answer to a trade.
-pub fn judge(table: &[u32], percentage: Percentage, price: u32, day: Day) -> Answer
+pub fn judge(
+    table: &[u32],
+    percentage: Percentage,
+    price: u32,
+    references: TradeReferences,
+) -> Answer
     requires { ⌜ T (isTable (now table)) ⌝ }
-    ensures { λ r. ⌜ r ≡ tradeJudged (pricesOf (now (table .entry))) percentage price day ⌝ }
+    ensures { λ r. ⌜ r ≡ tradeJudged (pricesOf (now (table .entry))) percentage price references ⌝ }
 {
-    let reading = readings::reading_of(table, percentage, day);
+    let reading = readings::reading_of(table, percentage, references);
     let Reading::Permitted(range) = reading else {
         return answers::none_shown(answers::reading_number(reading));
     };

@@ -6,8 +6,8 @@ use Rattle.trades.proofs.judge_trade.Tie as tie
 phase-1-requires : tie.Need-phase-1-requires
 phase-1-requires c κs = search needs
 
-day-of-requires : tie.Need-day-of-requires
-day-of-requires c κs = search needs
+references-of-requires : tie.Need-references-of-requires
+references-of-requires c κs = search needs
 
 slice-aggregate-judge : tie.Need-slice-aggregate-judge
 slice-aggregate-judge c = search needs
@@ -19,14 +19,14 @@ judge-requires : tie.Need-judge-requires
 judge-requires c κs = search needs
 
 returns : tie.Need-returns
-returns c = rw (← (c .before .before .before .before .phase-1 .ensures .0), ← (c .before .five-percent .ensures), ← (c .before .before .before .day-of .ensures)) (c .judge .ensures)
+returns c = rw (← (c .before .before .before .before .phase-1 .ensures .0), ← (c .before .five-percent .ensures), ← (c .before .before .before .references-of .ensures)) (c .judge .ensures)
 
 pub judge-trade-spec : {M : Type 1} → statement M
 judge-trade-spec =
     tie.close
     (tie.spec
     phase-1-requires
-    day-of-requires
+    references-of-requires
     slice-aggregate-judge
     five-percent-requires
     judge-requires

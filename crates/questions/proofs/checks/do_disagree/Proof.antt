@@ -22,18 +22,18 @@ is-present-requires-2 c κs = search needs
 are-different-requires-2 : tie.Need-are-different-requires-2
 are-different-requires-2 c κs = search needs
 
-is-crossed-requires : tie.Need-is-crossed-requires
-is-crossed-requires c κs = search needs
+is-locked-or-crossed-requires : tie.Need-is-locked-or-crossed-requires
+is-locked-or-crossed-requires c κs = search needs
 
 is-quoted-before-requires : tie.Need-is-quoted-before-requires
 is-quoted-before-requires c κs = search needs
 
-are-unpaired-requires : tie.Need-are-unpaired-requires
-are-unpaired-requires c κs = search needs
+is-bad-pair-requires : tie.Need-is-bad-pair-requires
+is-bad-pair-requires c κs = search needs
 
 returns : tie.Need-returns
 unfolding disagree
-returns c = rw (c .before .before .before .before .before .before .are-different .ensures, c .before .before .before .before .before .before .before .before .has-buy-queue .ensures, c .before .before .before .before .before .before .before .is-present .ensures, c .before .before .before .are-different2 .ensures, c .before .before .before .before .before .has-sell-queue .ensures, c .before .before .before .before .is-present2 .ensures, c .before .before .is-crossed .ensures, c .before .is-quoted-before .ensures, c .are-unpaired .ensures)
+returns c = rw (c .before .before .before .before .before .before .are-different .ensures, c .before .before .before .before .before .before .before .before .has-buy-queue .ensures, c .before .before .before .before .before .before .before .is-present .ensures, c .before .before .before .are-different2 .ensures, c .before .before .before .before .before .has-sell-queue .ensures, c .before .before .before .before .is-present2 .ensures, c .before .before .is-locked-or-crossed .ensures, c .before .is-quoted-before .ensures, c .is-bad-pair .ensures)
 
 pub do-disagree-spec : {M : Type 1} → statement M
 do-disagree-spec =
@@ -45,7 +45,7 @@ do-disagree-spec =
     has-sell-queue-requires
     is-present-requires-2
     are-different-requires-2
-    is-crossed-requires
+    is-locked-or-crossed-requires
     is-quoted-before-requires
-    are-unpaired-requires
+    is-bad-pair-requires
     returns)

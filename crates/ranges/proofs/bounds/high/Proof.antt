@@ -1,7 +1,7 @@
 -- The upper limit of what is there.
 use borrow.Author.Needs.{needs}
 use mathlib.Core.Path.{ap, _∙_}
-use Rattle.ranges.specs.Bounds.{reference}
+use Rattle.ranges.specs.Bounds.{asReference}
 use Rattle.ranges.proofs.bounds.high.Statement.{statement}
 use Rattle.ranges.proofs.bounds.high.Tie as tie
 
@@ -21,7 +21,7 @@ returns : tie.Need-returns
 returns c = search needs
 
 returns-2 : tie.Need-returns-2
-returns-2 c = rw (c .before .before .before .reference .given .1) (c .reference-found .ensures ∙ ap reference (c .before .upper .ensures))
+returns-2 c = rw (c .before .before .before .reference .given .1) (c .reference-found .ensures ∙ ap asReference (c .before .upper .ensures))
 
 pub high-spec : {M : Type 1} → statement M
 high-spec =

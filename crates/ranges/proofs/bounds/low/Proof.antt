@@ -1,7 +1,7 @@
 -- The lower limit of what is there.
 use borrow.Author.Needs.{needs}
 use mathlib.Core.Path.{ap, _∙_}
-use Rattle.ranges.specs.Bounds.{reference}
+use Rattle.ranges.specs.Bounds.{asReference}
 use Rattle.ranges.proofs.bounds.low.Statement.{statement}
 use Rattle.ranges.proofs.bounds.low.Tie as tie
 
@@ -21,7 +21,7 @@ returns : tie.Need-returns
 returns c = search needs
 
 returns-2 : tie.Need-returns-2
-returns-2 c = rw (c .before .before .before .reference .given .1) (c .reference-found .ensures ∙ ap reference (c .before .lower .ensures))
+returns-2 c = rw (c .before .before .before .reference .given .1) (c .reference-found .ensures ∙ ap asReference (c .before .lower .ensures))
 
 pub low-spec : {M : Type 1} → statement M
 low-spec =

@@ -2,7 +2,7 @@
 use borrow.Author.Needs.{needs}
 use mathlib.Core.Path.{ap, ap₂, _∙_}
 use Rattle.questions.specs.Missing.{priceOr}
-use Rattle.ranges.specs.Bounds.{nineAbove}
+use Rattle.ranges.specs.Bounds.{nineSpreadsAbove}
 use Rattle.ranges.specs.Permitted.{highestOf}
 use Rattle.ranges.proofs.permitted.highest_of.Statement.{statement}
 use Rattle.ranges.proofs.permitted.highest_of.Tie as tie
@@ -25,8 +25,8 @@ enum-told-2 c = search needs
 ask-of-requires-2 : tie.Need-ask-of-requires-2
 ask-of-requires-2 c κs = search needs
 
-nine-above-requires : tie.Need-nine-above-requires
-nine-above-requires c κs = search needs
+nine-spreads-above-requires : tie.Need-nine-spreads-above-requires
+nine-spreads-above-requires c κs = search needs
 
 price-or-requires-2 : tie.Need-price-or-requires-2
 price-or-requires-2 c κs = search needs
@@ -61,7 +61,7 @@ returns c = rw (c .before .before .enum-told .given .1) (c .price-or .ensures �
 
 returns-2 : tie.Need-returns-2
 unfolding highestOf
-returns-2 c = rw (c .before .before .before .enum-told2 .given .1) (c .price-or2 .ensures ∙ ap₂ priceOr (c .before .before .before .before .before .last-price .ensures) (c .before .nine-above .ensures ∙ ap (nineAbove _) (c .before .before .ask-of2 .ensures)))
+returns-2 c = rw (c .before .before .before .enum-told2 .given .1) (c .price-or2 .ensures ∙ ap₂ priceOr (c .before .before .before .before .before .last-price .ensures) (c .before .nine-spreads-above .ensures ∙ ap (nineSpreadsAbove _) (c .before .before .ask-of2 .ensures)))
 
 returns-3 : tie.Need-returns-3
 unfolding highestOf
@@ -89,7 +89,7 @@ highest-of-spec =
     price-or-requires
     enum-told-2
     ask-of-requires-2
-    nine-above-requires
+    nine-spreads-above-requires
     price-or-requires-2
     enum-told-3
     enum-told-4

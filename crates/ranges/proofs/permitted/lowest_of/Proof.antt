@@ -2,7 +2,7 @@
 use borrow.Author.Needs.{needs}
 use mathlib.Core.Path.{ap, ap₂, _∙_}
 use Rattle.questions.specs.Missing.{priceOr}
-use Rattle.ranges.specs.Bounds.{nineBelow}
+use Rattle.ranges.specs.Bounds.{nineSpreadsBelow}
 use Rattle.ranges.specs.Permitted.{lowestOf}
 use Rattle.ranges.proofs.permitted.lowest_of.Statement.{statement}
 use Rattle.ranges.proofs.permitted.lowest_of.Tie as tie
@@ -46,8 +46,8 @@ enum-told-5 c = search needs
 bid-of-requires-2 : tie.Need-bid-of-requires-2
 bid-of-requires-2 c κs = search needs
 
-nine-below-requires : tie.Need-nine-below-requires
-nine-below-requires c κs = search needs
+nine-spreads-below-requires : tie.Need-nine-spreads-below-requires
+nine-spreads-below-requires c κs = search needs
 
 price-or-requires-3 : tie.Need-price-or-requires-3
 price-or-requires-3 c κs = search needs
@@ -73,7 +73,7 @@ returns-4 c = rw (c .before .before .enum-told4 .given .1) (c .price-or2 .ensure
 
 returns-5 : tie.Need-returns-5
 unfolding lowestOf
-returns-5 c = rw (c .before .before .before .enum-told5 .given .1) (c .price-or3 .ensures ∙ ap₂ priceOr (c .before .before .before .before .before .first-price .ensures) (c .before .nine-below .ensures ∙ ap (nineBelow _) (c .before .before .bid-of2 .ensures)))
+returns-5 c = rw (c .before .before .before .enum-told5 .given .1) (c .price-or3 .ensures ∙ ap₂ priceOr (c .before .before .before .before .before .first-price .ensures) (c .before .nine-spreads-below .ensures ∙ ap (nineSpreadsBelow _) (c .before .before .bid-of2 .ensures)))
 
 returns-6 : tie.Need-returns-6
 unfolding lowestOf
@@ -96,7 +96,7 @@ lowest-of-spec =
     price-or-requires-2
     enum-told-5
     bid-of-requires-2
-    nine-below-requires
+    nine-spreads-below-requires
     price-or-requires-3
     enum-told-6
     returns

@@ -10,13 +10,13 @@ lowest-of-requires c κs = search needs
 highest-of-requires : tie.Need-highest-of-requires
 highest-of-requires c κs = search needs
 
-nine-fold-of-requires : tie.Need-nine-fold-of-requires
-nine-fold-of-requires c κs = search needs
+nine-fold-reference-requires : tie.Need-nine-fold-reference-requires
+nine-fold-reference-requires c κs = search needs
 
 returns : tie.Need-returns
 unfolding rangeOf
-returns c = rw (c .before .before .lowest-of .ensures, c .before .highest-of .ensures, c .nine-fold-of .ensures)
+returns c = rw (c .before .before .lowest-of .ensures, c .before .highest-of .ensures, c .nine-fold-reference .ensures)
 
 pub range-of-spec : {M : Type 1} → statement M
 range-of-spec =
-    tie.close (tie.spec lowest-of-requires highest-of-requires nine-fold-of-requires returns)
+    tie.close (tie.spec lowest-of-requires highest-of-requires nine-fold-reference-requires returns)

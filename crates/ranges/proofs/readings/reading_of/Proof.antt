@@ -1,9 +1,8 @@
 -- The first check that applies, in number order.
 use borrow.Author.Needs.{needs}
-use mathlib.Core.Path.{ap, sym, _∙_}
+use mathlib.Core.Path.{ap}
 use Rattle.ranges.specs.declared.Reading.the-variants.{Permitted}
-use Rattle.ranges.specs.Readings.{readingBy}
-use Rattle.ranges.proofs.Checked.{unknown, known}
+use Rattle.ranges.specs.Readings.{readingBy, readingOf}
 use Rattle.ranges.proofs.readings.reading_of.Statement.{statement}
 use Rattle.ranges.proofs.readings.reading_of.Tie as tie
 
@@ -17,35 +16,36 @@ enum-told : tie.Need-enum-told
 enum-told c = search needs
 
 returns : tie.Need-returns
-returns c = sym (unknown _ _ _ _ (sym (c .before .before .choose .ensures) ∙ c .enum-told .given .1))
+unfolding readingOf
+returns c = rw (← (c .before .before .choose .ensures), c .enum-told .given .1)
 
 any-off-requires : tie.Need-any-off-requires
 any-off-requires c κs = search needs
 
 returns-2 : tie.Need-returns-2
-unfolding readingBy
-returns-2 c = rw (known _ _ _ _ _ _ (sym (c .before .before .before .before .before .choose .ensures) ∙ c .before .before .before .choice .given .1), sym (c .before .any-off .ensures) ∙ c .if1 .taken)
+unfolding readingOf readingBy
+returns-2 c = rw (← (c .before .before .before .before .before .choose .ensures), c .before .before .before .choice .given .1, ← (c .before .any-off .ensures), c .if1 .taken)
 
 do-disagree-requires : tie.Need-do-disagree-requires
 do-disagree-requires c κs = search needs
 
 returns-3 : tie.Need-returns-3
-unfolding readingBy
-returns-3 c = rw (known _ _ _ _ _ _ (sym (c .before .before .before .before .before .before .before .choose .ensures) ∙ c .before .before .before .before .before .choice .given .1), sym (c .before .before .before .any-off .ensures) ∙ c .before .before .if1 .left, sym (c .before .do-disagree .ensures) ∙ c .if2 .taken)
+unfolding readingOf readingBy
+returns-3 c = rw (← (c .before .before .before .before .before .before .before .choose .ensures), c .before .before .before .before .before .choice .given .1, ← (c .before .before .before .any-off .ensures), c .before .before .if1 .left, ← (c .before .do-disagree .ensures), c .if2 .taken)
 
 is-unopposed-requires : tie.Need-is-unopposed-requires
 is-unopposed-requires c κs = search needs
 
 returns-4 : tie.Need-returns-4
-unfolding readingBy
-returns-4 c = rw (known _ _ _ _ _ _ (sym (c .before .before .before .before .before .before .before .before .before .choose .ensures) ∙ c .before .before .before .before .before .before .before .choice .given .1), sym (c .before .before .before .before .before .any-off .ensures) ∙ c .before .before .before .before .if1 .left, sym (c .before .before .before .do-disagree .ensures) ∙ c .before .before .if2 .left, sym (c .before .is-unopposed .ensures) ∙ c .if3 .taken)
+unfolding readingOf readingBy
+returns-4 c = rw (← (c .before .before .before .before .before .before .before .before .before .choose .ensures), c .before .before .before .before .before .before .before .choice .given .1, ← (c .before .before .before .before .before .any-off .ensures), c .before .before .before .before .if1 .left, ← (c .before .before .before .do-disagree .ensures), c .before .before .if2 .left, ← (c .before .is-unopposed .ensures), c .if3 .taken)
 
 range-of-requires : tie.Need-range-of-requires
 range-of-requires c κs = search needs
 
 returns-5 : tie.Need-returns-5
-unfolding readingBy
-returns-5 c = rw (known _ _ _ _ _ _ (sym (c .before .before .before .before .before .before .before .before .before .before .choose .ensures) ∙ c .before .before .before .before .before .before .before .before .choice .given .1), sym (c .before .before .before .before .before .before .any-off .ensures) ∙ c .before .before .before .before .before .if1 .left, sym (c .before .before .before .before .do-disagree .ensures) ∙ c .before .before .before .if2 .left, sym (c .before .before .is-unopposed .ensures) ∙ c .before .if3 .left) (ap Permitted (c .range-of .ensures))
+unfolding readingOf readingBy
+returns-5 c = rw (← (c .before .before .before .before .before .before .before .before .before .before .choose .ensures), c .before .before .before .before .before .before .before .before .choice .given .1, ← (c .before .before .before .before .before .before .any-off .ensures), c .before .before .before .before .before .if1 .left, ← (c .before .before .before .before .do-disagree .ensures), c .before .before .before .if2 .left, ← (c .before .before .is-unopposed .ensures), c .before .if3 .left) (ap Permitted (c .range-of .ensures))
 
 pub reading-of-spec : {M : Type 1} → statement M
 reading-of-spec =

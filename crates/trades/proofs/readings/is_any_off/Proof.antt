@@ -1,6 +1,6 @@
 -- Price by price.
 use borrow.Author.Needs.{needs}
-use Rattle.trades.specs.Trades.{dayOff}
+use Rattle.trades.specs.Trades.{anyTradeOff}
 use Rattle.trades.proofs.readings.is_any_off.Statement.{statement}
 use Rattle.trades.proofs.readings.is_any_off.Tie as tie
 
@@ -20,7 +20,7 @@ is-off-requires-5 : tie.Need-is-off-requires-5
 is-off-requires-5 c κs = search needs
 
 returns : tie.Need-returns
-unfolding dayOff
+unfolding anyTradeOff
 returns c = rw (c .before .before .before .before .is-off .ensures, c .before .before .before .is-off2 .ensures, c .before .before .is-off3 .ensures, c .before .is-off4 .ensures, c .is-off5 .ensures)
 
 pub is-any-off-spec : {M : Type 1} → statement M

@@ -1,9 +1,9 @@
 -- Nine spreads up from what is there.
 use borrow.Author.Needs.{needs}
 use mathlib.Core.Path.{ap, _∙_}
-use Rattle.ranges.specs.Bounds.{reference}
-use Rattle.ranges.proofs.bounds.nine_above.Statement.{statement}
-use Rattle.ranges.proofs.bounds.nine_above.Tie as tie
+use Rattle.ranges.specs.Bounds.{asReference}
+use Rattle.ranges.proofs.bounds.nine_spreads_above.Statement.{statement}
+use Rattle.ranges.proofs.bounds.nine_spreads_above.Tie as tie
 
 enum-told : tie.Need-enum-told
 enum-told c = search needs
@@ -21,10 +21,10 @@ returns : tie.Need-returns
 returns c = search needs
 
 returns-2 : tie.Need-returns-2
-returns-2 c = rw (c .before .before .before .reference .given .1) (c .reference-found .ensures ∙ ap reference (c .before .up .ensures))
+returns-2 c = rw (c .before .before .before .reference .given .1) (c .reference-found .ensures ∙ ap asReference (c .before .up .ensures))
 
-pub nine-above-spec : {M : Type 1} → statement M
-nine-above-spec =
+pub nine-spreads-above-spec : {M : Type 1} → statement M
+nine-spreads-above-spec =
     tie.close
     (tie.spec
     enum-told

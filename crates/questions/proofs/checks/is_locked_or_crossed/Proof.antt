@@ -1,7 +1,7 @@
 -- Case by case: only with both queues are two prices compared.
 use borrow.Author.Needs.{needs}
-use Rattle.questions.proofs.checks.is_crossed.Statement.{statement}
-use Rattle.questions.proofs.checks.is_crossed.Tie as tie
+use Rattle.questions.proofs.checks.is_locked_or_crossed.Statement.{statement}
+use Rattle.questions.proofs.checks.is_locked_or_crossed.Tie as tie
 
 enum-told : tie.Need-enum-told
 enum-told c = search needs
@@ -36,8 +36,8 @@ returns-4 c = rw (c .before .queues3 .given .1)
 returns-5 : tie.Need-returns-5
 returns-5 c = rw (c .before .queues4 .given .1)
 
-pub is-crossed-spec : {M : Type 1} → statement M
-is-crossed-spec =
+pub is-locked-or-crossed-spec : {M : Type 1} → statement M
+is-locked-or-crossed-spec =
     tie.close
     (tie.spec
     enum-told

@@ -1,7 +1,7 @@
 -- One without the other, or the high below the low.
 use borrow.Author.Needs.{needs}
-use Rattle.questions.proofs.checks.are_unpaired.Statement.{statement}
-use Rattle.questions.proofs.checks.are_unpaired.Tie as tie
+use Rattle.questions.proofs.checks.is_bad_pair.Statement.{statement}
+use Rattle.questions.proofs.checks.is_bad_pair.Tie as tie
 
 is-present-requires : tie.Need-is-present-requires
 is-present-requires c κs = search needs
@@ -18,8 +18,8 @@ is-below-requires c κs = search needs
 returns : tie.Need-returns
 returns c = rw (c .before .are-different .ensures, c .before .before .before .is-present .ensures, c .before .before .is-present2 .ensures, c .is-below .ensures)
 
-pub are-unpaired-spec : {M : Type 1} → statement M
-are-unpaired-spec =
+pub is-bad-pair-spec : {M : Type 1} → statement M
+is-bad-pair-spec =
     tie.close
     (tie.spec
     is-present-requires

@@ -1,8 +1,8 @@
 -- Field by field.
 use borrow.Author.Needs.{needs}
-use Rattle.trades.specs.Trades.{dayOf}
-use Rattle.trades.proofs.readings.day_of.Statement.{statement}
-use Rattle.trades.proofs.readings.day_of.Tie as tie
+use Rattle.trades.specs.Trades.{tradeReferencesOf}
+use Rattle.trades.proofs.readings.references_of.Statement.{statement}
+use Rattle.trades.proofs.readings.references_of.Tie as tie
 
 reference-of-requires : tie.Need-reference-of-requires
 reference-of-requires c κs = search needs
@@ -20,11 +20,11 @@ reference-of-requires-5 : tie.Need-reference-of-requires-5
 reference-of-requires-5 c κs = search needs
 
 returns : tie.Need-returns
-unfolding dayOf
+unfolding tradeReferencesOf
 returns c = rw (c .before .before .before .before .reference-of .ensures, c .before .before .before .reference-of2 .ensures, c .before .before .reference-of3 .ensures, c .before .reference-of4 .ensures, c .reference-of5 .ensures)
 
-pub day-of-spec : {M : Type 1} → statement M
-day-of-spec =
+pub references-of-spec : {M : Type 1} → statement M
+references-of-spec =
     tie.close
     (tie.spec
     reference-of-requires
