@@ -31,7 +31,7 @@ inside l r p h =
     (or-cases (ltb p (firstPrice l)) (ltb (lastPrice l) p) t))
 
 -- a is below b exactly where b is not at most a
-below : (a b : ℕ) → ltb a b ≡ not (leb b a)
+pub below : (a b : ℕ) → ltb a b ≡ not (leb b a)
 below a b = go (leb b a) refl
   where
     go : (v : Bool) → leb b a ≡ v → ltb a b ≡ not v

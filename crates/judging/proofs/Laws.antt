@@ -93,7 +93,7 @@ any-order-price t wf percent s u ns nu same h =
     go (Refused x) a b = absurd (not-judged x (rw a at h))
     go (Permitted range) a b =
         record {
-          judged-too = rw b (judged-number (verdictOf (ladder t) range p));
+          not-refused = rw b (judged-number (verdictOf (ladder t) range p));
           lowest = rw (a, b);
           highest = rw (a, b);
           accepted = accepted;

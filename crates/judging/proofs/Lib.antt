@@ -3,5 +3,5 @@
 pub mod Laws
 mod Cuts
 mod Windows
-mod Acceptance
+pub mod Acceptance
 mod Fields

@@ -29,10 +29,10 @@ pub record SameButPrice (s u : Bytes) : Type 0 where
   pub before : (i : ℕ) → i < 4 → getD s i 0 ≡ getD u i 0
   pub after : (i : ℕ) → 8 ≤ i → i < questionBytes → getD s i 0 ≡ getD u i 0
 
--- what holds of u's answer: it is judged too, shows the same range, and is accepted exactly where its price is a ladder price from the
+-- what holds of u's answer: it is not refused either, shows the same range, and is accepted exactly where its price is a ladder price from the
 -- lowest shown to the highest shown, and never where 0 and 0 are shown
 pub record SameRange (t : Table) (percent : Percentage) (s u : Bytes) : Type 0 where
-  pub judged-too : T (notRefused (judged (ladder t) percent u .number))
+  pub not-refused : T (notRefused (judged (ladder t) percent u .number))
   pub lowest : judged (ladder t) percent u .lowest ≡ judged (ladder t) percent s .lowest
   pub highest : judged (ladder t) percent u .highest ≡ judged (ladder t) percent s .highest
   pub accepted :

@@ -81,19 +81,19 @@ pub fn answer_on(table: &[u32], range: Range, price: u32) -> Answer
 }
 
 // The answer to a question as bytes.
-pub fn judge(table: &[u32], percentage: Percentage, s: &[u8]) -> Answer
+pub fn judge(table: &[u32], percentage: Percentage, question: &[u8]) -> Answer
     requires { ⌜ T (isTable (now table)) ⌝ }
-    ensures { λ r. ⌜ r ≡ judged (pricesOf (now (table .entry))) percentage (now (s .entry)) ⌝ }
+    ensures { λ r. ⌜ r ≡ judged (pricesOf (now (table .entry))) percentage (now (question .entry)) ⌝ }
 {
-    let decoded = decoding::decode(s);
-    let Decoded::Asked(question) = decoded else {
+    let decoded = decoding::decode(question);
+    let Decoded::Asked(asked) = decoded else {
         return none_shown(WRONG_LENGTH);
     };
-    let codes = question.codes;
-    let references = question.references;
+    let codes = asked.codes;
+    let references = asked.references;
     let reading = readings::reading_of(table, percentage, codes, references);
     let Reading::Permitted(range) = reading else {
         return none_shown(reading_number(reading));
     };
-    answer_on(table, range, question.price)
+    answer_on(table, range, asked.price)
 }

@@ -19,13 +19,13 @@ use Rattle.ladder.specs.Laws.{ThePhase1Table, TheLadder, LadderRises, En
 use Rattle.ladder.specs.Laws.{SpreadUpIsNext, LargestBelow, SpreadDownIsPrevious, NThenM, GoingByPlaces, UpThenDown, SmallestAtLeast}
 use Rattle.ladder.specs.Laws.{LadderLaws, FirstIsSmallest, LargestAtMost, LatestIsLargest, SpreadsKeepOrder, RoundingKeepsOrder}
 use Rattle.ladder.proofs.Lists.Truth.{passed, true-of}
-use Rattle.ladder.proofs.Lists.Rising.{Rising, over-first}
+use Rattle.ladder.proofs.Lists.Rising.{Rising, over-first, first-held, last-held}
 use Rattle.ladder.proofs.Lists.Entries.{at-place, past, entry-held, held-entry, entries-rise, place-of-entry, place-off, entry-of-place}
 use Rattle.ladder.proofs.Lists.Extremes.{Best, None, Result, Least, Greatest, first-result, latest-result}
 use Rattle.ladder.proofs.Lists.Moves.{times-add}
 use Rattle.ladder.proofs.Lists.Going.{ups-entry, downs-entry}
 use Rattle.ladder.proofs.Answers.{answered}
-use Rattle.ladder.proofs.Tables.Table.{table-facts, first-is-start, last-is-top, ladder-rises as rises}
+use Rattle.ladder.proofs.Tables.Table.{start, start-held, table-facts, first-is-start, last-is-top, ladder-rises as rises}
 use Rattle.ladder.proofs.Tables.Members.{the-members}
 use Rattle.ladder.proofs.Lists.Order.{up-by, down-by, up-on, down-on, times-on, spreads-up-order, spreads-down-order}
 use Rattle.ladder.proofs.Lists.Order.{at-least-order, at-most-order}
@@ -59,6 +59,8 @@ ends-are-the-tables t wf =
     record {
       first-is-bottom = first-is-start t wf;
       last-is-top = last-is-top t wf (length t - 1) (omega (arith, table-facts t wf .some));
+      first-on = priced t wf _ (first-held (ladder t) (start t) (start-held t wf));
+      last-on = priced t wf _ (last-held (ladder t) (start t) (start-held t wf));
     }
 
 pub never-zero : NeverZero

@@ -31,10 +31,12 @@ abbrev pub LadderRises : Type 0
 LadderRises =
     (t : Table) → T (wellFormed t) → (j k p q : ℕ) → j < k → priceAt j (ladder t) ≡ Price p → priceAt k (ladder t) ≡ Price q → p < q
 
--- Its ends are the first bottom and the last top.
+-- Its ends are the first bottom and the last top, and are ladder prices.
 pub record Ends (t : Table) : Type 0 where
   pub first-is-bottom : firstPrice (ladder t) ≡ getD t 0 noBand .bottom
   pub last-is-top : lastPrice (ladder t) ≡ getD t (length t - 1) noBand .top
+  pub first-on : T (isLadderPrice (firstPrice (ladder t)) t)
+  pub last-on : T (isLadderPrice (lastPrice (ladder t)) t)
 
 abbrev pub EndsAreTheTables : Type 0
 EndsAreTheTables = (t : Table) → T (wellFormed t) → Ends t

@@ -18,6 +18,16 @@ pub record Finds (t : Table) (scale factor r : ℕ) : Type 0 where
 abbrev pub PercentageFinds : Type 0
 PercentageFinds = (t : Table) → T (wellFormed t) → (scale factor r : ℕ) → T (isLadderPrice r t) → Finds t scale factor r
 
+-- The limits of a ladder price are ladder prices, the lower one not above it and the upper one not below it.
+pub record Encloses (t : Table) (scale lower upper r : ℕ) : Type 0 where
+  pub low-on : T (isLadderPrice (low (ladder t) scale lower r) t)
+  pub high-on : T (isLadderPrice (high (ladder t) scale upper r) t)
+  pub low-below : low (ladder t) scale lower r ≤ r
+  pub high-above : r ≤ high (ladder t) scale upper r
+
+abbrev pub LimitsEnclose : Type 0
+LimitsEnclose = (t : Table) → T (wellFormed t) → (scale lower upper r : ℕ) → T (isLadderPrice r t) → Encloses t scale lower upper r
+
 -- Of two ladder prices as references the higher one has no smaller limit: over any well-formed table, for any scale and factor.
 pub record Ordered (t : Table) (scale factor p q : ℕ) : Type 0 where
   pub lower : low (ladder t) scale factor p ≤ low (ladder t) scale factor q

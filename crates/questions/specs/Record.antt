@@ -11,6 +11,7 @@ use Rattle.questions.specs.declared.Decoded.{Decoded}
 use Rattle.questions.specs.declared.Decoded.the-variants.{Asked, WrongLength}
 use Rattle.questions.specs.Missing.{referenceOf}
 
+-- bytes, each a number below 256
 abbrev pub Bytes : Type 0
 Bytes = List ℕ
 

@@ -1,7 +1,7 @@
 // Questions: a question from its bytes, the rule that its codes choose, and the checks on its codes and references.
 //
 // Prices are whole mils.
-pub mod bytes; // bytes.rt: little-endian numbers
+mod bytes; // bytes.rt: little-endian numbers
 pub mod decoding; // decoding.rt: a question from its bytes
 pub mod missing; // missing.rt: references, each a price or missing
 pub mod rules; // rules.rt: the rule that side, order type and queue code choose

@@ -50,7 +50,7 @@ pub fn high(table: &[u32], percentage: Percentage, reference: Reference) -> Refe
 }
 
 // Nine spreads above a reference.
-pub fn nine_spreads_above(table: &[u32], reference: Reference) -> Reference
+pub(crate) fn nine_spreads_above(table: &[u32], reference: Reference) -> Reference
     requires { ⌜ T (isTable (now table)) ⌝ }
     ensures { λ r. ⌜ r ≡ nineSpreadsAbove (pricesOf (now (table .entry))) reference ⌝ }
 {
@@ -61,7 +61,7 @@ pub fn nine_spreads_above(table: &[u32], reference: Reference) -> Reference
 }
 
 // Nine spreads below a reference.
-pub fn nine_spreads_below(table: &[u32], reference: Reference) -> Reference
+pub(crate) fn nine_spreads_below(table: &[u32], reference: Reference) -> Reference
     requires { ⌜ T (isTable (now table)) ⌝ }
     ensures { λ r. ⌜ r ≡ nineSpreadsBelow (pricesOf (now (table .entry))) reference ⌝ }
 {

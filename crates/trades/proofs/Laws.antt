@@ -1,23 +1,33 @@
 -- The laws of specs/Laws.antt, proved.
 use mathlib.Core.Path.{_≡_, refl}
-use Prim.Native.Nat.{ℕ}
-use mathlib.Core.Bool.{Bool, true, false, cond}
-use mathlib.Core.List.{List}
-use lib.Dec.{T}
+use Prim.Native.Nat.{ℕ, _≤_}
+use native.Mathlib.Omega.{arith}
+use mathlib.Core.Bool.{Bool, true, false, not, cond, _&&_, _||_}
+use lib.Dec.{T, eqb, leb, leb→le}
+use borrow.Author.Tests.{le-ltb}
+use Rattle.ladder.specs.Bands.{Table, wellFormed}
+use Rattle.ladder.specs.Ladder.{Prices, ladder, isLadderPrice}
+use Rattle.ladder.specs.Places.{firstPrice, lastPrice}
+use Rattle.ladder.proofs.Lists.Truth.{and-left, and-right, zero-is-one}
+use Rattle.ladder.proofs.Lists.Rising.{over-first, under-last}
+use Rattle.ladder.proofs.Laws.{rising, listed, ends-are-the-tables}
 use Rattle.limits.specs.declared.Percentage.{Percentage}
+use Rattle.questions.specs.Checks.{isOff, badPair}
 use Rattle.ranges.specs.declared.Range.{Range}
-use Rattle.ranges.specs.declared.Reading.{Reading}
 use Rattle.ranges.specs.declared.Reading.the-variants.{Permitted, Refused}
 use Rattle.ranges.specs.declared.Refusal.the-variants.{OffLadder, Disagreement}
+use Rattle.ranges.specs.Bounds.{Low, High}
 use Rattle.judging.specs.declared.Verdict.the-variants.{Accepted, OutsideLadder, BelowLowest, AboveHighest}
 use Rattle.judging.specs.Verdicts.{outside, belowLowest, aboveHighest}
 use Rattle.judging.specs.Numbers.{verdictNumber}
+use Rattle.judging.proofs.Acceptance.{below}
 use Rattle.trades.specs.declared.TradeReferences.{TradeReferences}
 use Rattle.trades.specs.Trades.{anyTradeOff, tradeDisagrees, tradeRange, tradeReading, tradeVerdict, tradeBy, tradeJudged}
-use Rattle.trades.specs.Laws.{Numbers, TradeNumbers}
+use Rattle.trades.specs.Laws.{isTradeRefusal, Numbers, TradeNumbers, FromTo, TradeRange, TradeLaws}
+use Rattle.trades.proofs.Pairs.{or-false, paired, range-rises, on, least-on, greatest-on, price-on, low-on, high-on, limits-paired}
 
 -- a trade with a range gets 0, 6, 8 or 9
-priced : (l : List ℕ) (range : Range) (p : ℕ) → Numbers (tradeBy l (Permitted range) p)
+priced : (l : Prices) (range : Range) (p : ℕ) → Numbers (tradeBy l (Permitted range) p)
 unfolding tradeVerdict
 priced l range p = go (outside l p) (belowLowest range p) (aboveHighest range p)
   where
@@ -37,3 +47,73 @@ trade-numbers l percent p d = go (anyTradeOff l d) (tradeDisagrees d)
     go true b = record { one-of = tt; refused = λ h. refl }
     go false true = record { one-of = tt; refused = λ h. refl }
     go false false = priced l (tradeRange l percent d) p
+
+-- ---- the range
+
+-- a price from lowest to highest is within the ends of the ladder, so the verdict accepts it
+accepts : (t : Table) → T (wellFormed t) → (range : Range) (p : ℕ) → T (isLadderPrice (range .lowest) t) → T (isLadderPrice (range .highest) t) →
+    eqb (verdictNumber (tradeVerdict (ladder t) range p)) 0 ≡ (leb (range .lowest) p && leb p (range .highest))
+unfolding tradeVerdict
+accepts t wf range p low high =
+    rw (below p (range .lowest), below (range .highest) p)
+    (go (outside (ladder t) p) (leb (range .lowest) p) (leb p (range .highest)) within)
+  where
+    within : T (leb (range .lowest) p && leb p (range .highest)) → outside (ladder t) p ≡ false
+    within h =
+        let a : range .lowest ≤ p = leb→le (range .lowest) p (and-left (leb (range .lowest) p) _ h) in
+        let b : p ≤ range .highest = leb→le p (range .highest) (and-right (leb (range .lowest) p) _ h) in
+        let first = over-first (ladder t) (rising t wf) (range .lowest) (listed t wf _ low) in
+        let last = under-last (ladder t) (rising t wf) (range .highest) (listed t wf _ high) in
+        rw (le-ltb p (firstPrice (ladder t)) (omega arith), le-ltb (lastPrice (ladder t)) p (omega arith))
+
+    go : (o x y : Bool) → (T (x && y) → o ≡ false) →
+        eqb (verdictNumber (cond o OutsideLadder (cond (not x) BelowLowest (cond (not y) AboveHighest Accepted)))) 0 ≡ (x && y)
+    go true true true f = let e : true ≡ false = f tt in let n : _≡_ {A = ℕ} 0 1 = cc in absurd (zero-is-one n)
+    go true true false f = refl
+    go true false y f = refl
+    go false false y f = refl
+    go false true false f = refl
+    go false true true f = refl
+
+module _ (t : Table) (wf : T (wellFormed t)) (percent : Percentage) (r : TradeReferences) where
+  on-and-paired : anyTradeOff (ladder t) r ≡ false → tradeDisagrees r ≡ false → (p : ℕ) → FromTo t (tradeBy (ladder t) (Permitted (tradeRange (ladder t) percent r)) p) p
+  unfolding anyTradeOff
+  on-and-paired off disagrees p =
+      let a = or-false _ (isOff (ladder t) (r .«highest_ask»)) off in
+      let b = or-false _ (isOff (ladder t) (r .«highest_bid»)) (a .0) in
+      let c = or-false _ (isOff (ladder t) (r .«lowest_ask»)) (b .0) in
+      let d = or-false (isOff (ladder t) (r .«previous_close»)) (isOff (ladder t) (r .«lowest_bid»)) (c .0) in
+      let close = on t wf (r .«previous_close») (d .0) in
+      let ends = ends-are-the-tables t wf in
+      let low =
+      price-on t wf _ _ (ends .first-on)
+      (least-on t wf _ _ (low-on t wf percent _ close) (least-on t wf _ _ (on t wf (r .«lowest_bid») (d .1)) (on t wf (r .«lowest_ask») (c .1)))) in
+      let high =
+      price-on t wf _ _ (ends .last-on)
+      (greatest-on t wf _ _ (high-on t wf percent _ close) (greatest-on t wf _ _ (on t wf (r .«highest_bid») (b .1)) (on t wf (r .«highest_ask») (a .1)))) in
+      let pairs = or-false (badPair (r .«lowest_bid») (r .«highest_bid»)) (badPair (r .«lowest_ask») (r .«highest_ask»)) disagrees in
+      let first-below-last = over-first (ladder t) (rising t wf) (lastPrice (ladder t)) (listed t wf _ (ends .last-on)) in
+      record {
+        lowest-on = low;
+        highest-on = high;
+        rises =
+            range-rises (firstPrice (ladder t)) (lastPrice (ladder t)) first-below-last (Low (ladder t) percent (r .«previous_close»)) (r .«lowest_bid»)
+            (r .«lowest_ask») (High (ladder t) percent (r .«previous_close»)) (r .«highest_bid») (r .«highest_ask»)
+            (limits-paired t wf percent _ close)
+            (paired _ _ (pairs .0)) (paired _ _ (pairs .1));
+        accepted = accepts t wf (tradeRange (ladder t) percent r) p low high;
+      }
+
+pub trade-range : TradeRange
+unfolding tradeJudged tradeReading
+trade-range t wf percent p r not-refused = go (anyTradeOff (ladder t) r) (tradeDisagrees r) refl refl not-refused
+  where
+    go : (off disagrees : Bool) → anyTradeOff (ladder t) r ≡ off → tradeDisagrees r ≡ disagrees →
+        (T (isTradeRefusal (tradeBy (ladder t) (cond off (Refused OffLadder) (cond disagrees (Refused Disagreement) (Permitted (tradeRange (ladder t) percent r)))) p .number)) → ⊥) →
+        FromTo t (tradeBy (ladder t) (cond off (Refused OffLadder) (cond disagrees (Refused Disagreement) (Permitted (tradeRange (ladder t) percent r)))) p) p
+    go true b e f n = absurd (n tt)
+    go false true e f n = absurd (n tt)
+    go false false e f n = on-and-paired t wf percent r e f p
+
+pub trade-laws : TradeLaws
+trade-laws = record { trade-numbers = trade-numbers; trade-range = trade-range }
