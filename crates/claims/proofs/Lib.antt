@@ -1,1 +1,2 @@
+-- Claim: the worked lines, computed.
 pub mod Claim

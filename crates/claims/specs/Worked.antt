@@ -2,7 +2,7 @@
 use mathlib.Core.Path.{_≡_}
 use Prim.Native.Nat.{ℕ}
 use mathlib.Core.Bool.{Bool, true, false, _&&_}
-use mathlib.Core.List.{List, [], _∷_}
+use mathlib.Core.List.{List, [], _∷_, _++_}
 use lib.Dec.{eqb}
 use Rattle.ladder.specs.declared.Found.{Found}
 use Rattle.ladder.specs.declared.Found.the-variants as found
@@ -75,70 +75,46 @@ at price number = record { price = price; number = number }
 
 -- Each order is tried at its lowest and its highest, and at the next ladder prices outside. Codes are side, order type, queue.
 
--- bid 19.89, ask 19.90, limit buy: 18.90 to 19.90
-unfoldable pub lineA : Line
-lineA = order (codes 1 1 2) (references 19890 19900 0) 18900 19900 (at 18890 8 ∷ at 18900 0 ∷ at 19900 0 ∷ at 19910 9 ∷ [])
+-- A: bid 19.89, ask 19.90, limit buy: 18.90 to 19.90
+-- B: bid 0.495, ask 0.50, limit sell: 0.495 to 0.74
+-- C: as B, enhanced buy: 0.375 to 0.59
+-- D: as B, enhanced sell: 0.45 to 0.74
+unfoldable pub linesAtoD : List Line
+linesAtoD =
+    order (codes 1 1 2) (references 19890 19900 0) 18900 19900 (at 18890 8 ∷ at 18900 0 ∷ at 19900 0 ∷ at 19910 9 ∷ []) ∷
+    order (codes 2 1 2) (references 495 500 0) 495 740 (at 490 8 ∷ at 495 0 ∷ at 740 0 ∷ at 750 9 ∷ []) ∷
+    order (codes 1 2 2) (references 495 500 0) 375 590 (at 370 8 ∷ at 375 0 ∷ at 590 0 ∷ at 600 9 ∷ []) ∷
+    order (codes 2 2 2) (references 495 500 0) 450 740 (at 445 8 ∷ at 450 0 ∷ at 740 0 ∷ at 750 9 ∷ []) ∷
+    []
 
--- bid 0.495, ask 0.50, limit sell: 0.495 to 0.74
-unfoldable pub lineB : Line
-lineB = order (codes 2 1 2) (references 495 500 0) 495 740 (at 490 8 ∷ at 495 0 ∷ at 740 0 ∷ at 750 9 ∷ [])
+-- E: Low(0.51) is 0.385
+-- F: High(0.245) is 0.345
+-- G: Low(0.034), Low(0.035) are 0.010, 0.011
+-- H: Low(9,995), High(9,880) are 9,500, 9,995
+-- I: Low(50), High(50) are 47.50, 52.50
+-- J: Low(20.20) is 19.19
+unfoldable pub linesEtoJ : List Line
+linesEtoJ =
+    low 510 385 ∷
+    high 245 345 ∷
+    low 34 10 ∷ low 35 11 ∷
+    low 9995000 9500000 ∷ high 9880000 9995000 ∷
+    low 50000 47500 ∷ high 50000 52500 ∷
+    low 20200 19190 ∷
+    []
 
--- as B, enhanced buy: 0.375 to 0.59
-unfoldable pub lineC : Line
-lineC = order (codes 1 2 2) (references 495 500 0) 375 590 (at 370 8 ∷ at 375 0 ∷ at 590 0 ∷ at 600 9 ∷ [])
+-- K: buy only, bid 1.00, nominal 1.00, limit buy: 0.76 to 8.99; at 9.00 answer 10
+-- L: sell only, ask 1.00, nominal 1.00, limit sell: 0.112 to 1.24; at 0.111 answer 10
+-- M: trade: close 10, bids 9.60 to 10.30, asks 9.80 to 10.60: 9.50 to 10.60; 9.503 is accepted and 9.499 gets 8
+unfoldable pub linesKtoM : List Line
+linesKtoM =
+    order (codes 1 1 3) (references 1000 0 1000) 760 8990 (at 750 8 ∷ at 760 0 ∷ at 8990 0 ∷ at 9000 10 ∷ []) ∷
+    order (codes 2 1 4) (references 0 1000 1000) 112 1240 (at 111 10 ∷ at 112 0 ∷ at 1240 0 ∷ at 1250 9 ∷ []) ∷
+    trade 10000 9600 9800 10300 10600 9500 10600 (at 9499 8 ∷ at 9500 0 ∷ at 9503 0 ∷ at 10600 0 ∷ at 10610 9 ∷ []) ∷
+    []
 
--- as B, enhanced sell: 0.45 to 0.74
-unfoldable pub lineD : Line
-lineD = order (codes 2 2 2) (references 495 500 0) 450 740 (at 445 8 ∷ at 450 0 ∷ at 740 0 ∷ at 750 9 ∷ [])
-
--- Low(0.51): 0.385
-unfoldable pub lineE : Line
-lineE = low 510 385
-
--- High(0.245): 0.345
-unfoldable pub lineF : Line
-lineF = high 245 345
-
--- Low(0.034), Low(0.035): 0.010, 0.011
-unfoldable pub lineG1 : Line
-lineG1 = low 34 10
-
-unfoldable pub lineG2 : Line
-lineG2 = low 35 11
-
--- Low(9,995), High(9,880): 9,500, 9,995
-unfoldable pub lineH1 : Line
-lineH1 = low 9995000 9500000
-
-unfoldable pub lineH2 : Line
-lineH2 = high 9880000 9995000
-
--- Low(50), High(50): 47.50, 52.50
-unfoldable pub lineI1 : Line
-lineI1 = low 50000 47500
-
-unfoldable pub lineI2 : Line
-lineI2 = high 50000 52500
-
--- Low(20.20): 19.19
-unfoldable pub lineJ : Line
-lineJ = low 20200 19190
-
--- buy only, bid 1.00, nominal 1.00, limit buy: 0.76 to 8.99; at 9.00 answer 10
-unfoldable pub lineK : Line
-lineK = order (codes 1 1 3) (references 1000 0 1000) 760 8990 (at 750 8 ∷ at 760 0 ∷ at 8990 0 ∷ at 9000 10 ∷ [])
-
--- sell only, ask 1.00, nominal 1.00, limit sell: 0.112 to 1.24; at 0.111 answer 10
-unfoldable pub lineL : Line
-lineL = order (codes 2 1 4) (references 0 1000 1000) 112 1240 (at 111 10 ∷ at 112 0 ∷ at 1240 0 ∷ at 1250 9 ∷ [])
-
--- trade: close 10, bids 9.60 to 10.30, asks 9.80 to 10.60: 9.50 to 10.60; 9.503 is accepted and 9.499 gets 8
-unfoldable pub lineM : Line
-lineM = trade 10000 9600 9800 10300 10600 9500 10600 (at 9499 8 ∷ at 9500 0 ∷ at 9503 0 ∷ at 10600 0 ∷ at 10610 9 ∷ [])
-
-unfoldable pub lines : List Line
-lines =
-    lineA ∷ lineB ∷ lineC ∷ lineD ∷ lineE ∷ lineF ∷ lineG1 ∷ lineG2 ∷ lineH1 ∷ lineH2 ∷ lineI1 ∷ lineI2 ∷ lineJ ∷ lineK ∷ lineL ∷ lineM ∷ []
+abbrev pub lines : List Line
+lines = linesAtoD ++ (linesEtoJ ++ linesKtoM)
 
 -- every line is right
 unfoldable pub every : List Line → Bool

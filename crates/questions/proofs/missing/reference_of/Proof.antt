@@ -1,3 +1,4 @@
+-- 0, or another number.
 use borrow.Author.Tests.{eq-eqb, ne-eqb}
 use Rattle.questions.proofs.missing.reference_of.Statement.{statement}
 use Rattle.questions.proofs.missing.reference_of.Tie as tie
