@@ -3,22 +3,8 @@ use borrow.Author.Needs.{needs}
 use Rattle.judging.proofs.judge.Statement.{statement}
 use Rattle.judging.proofs.judge.Tie as tie
 
-phase-1-requires : tie.Need-phase-1-requires
-phase-1-requires c κs = search needs
-
-slice-aggregate-judge : tie.Need-slice-aggregate-judge
-slice-aggregate-judge c = search needs
-
-five-percent-requires : tie.Need-five-percent-requires
-five-percent-requires c κs = search needs
-
-judge-requires : tie.Need-judge-requires
-judge-requires c κs = search needs
-
 returns : tie.Need-returns
 returns c = rw (← (c .before .before .before .phase-1 .ensures .0), ← (c .before .five-percent .ensures)) (c .judge .ensures)
 
 pub judge-spec : {M : Type 1} → statement M
-judge-spec =
-    tie.close
-    (tie.spec phase-1-requires slice-aggregate-judge five-percent-requires judge-requires returns)
+judge-spec = tie.close (tie.spec (λ c κs. search needs) (λ c. search needs) (λ c κs. search needs) (λ c κs. search needs) returns)

@@ -3,17 +3,8 @@ use borrow.Author.Needs.{needs}
 use Rattle.limits.proofs.five_percent_lower.Statement.{statement}
 use Rattle.limits.proofs.five_percent_lower.Tie as tie
 
-phase-1-requires : tie.Need-phase-1-requires
-phase-1-requires c κs = search needs
-
-slice-aggregate-lower : tie.Need-slice-aggregate-lower
-slice-aggregate-lower c = search needs
-
-lower-requires : tie.Need-lower-requires
-lower-requires c κs = search needs
-
 returns : tie.Need-returns
 returns c = rw (← (c .before .before .phase-1 .ensures .0)) (c .lower .ensures)
 
 pub five-percent-lower-spec : {M : Type 1} → statement M
-five-percent-lower-spec = tie.close (tie.spec phase-1-requires slice-aggregate-lower lower-requires returns)
+five-percent-lower-spec = tie.close (tie.spec (λ c κs. search needs) (λ c. search needs) (λ c κs. search needs) returns)

@@ -3,17 +3,8 @@ use borrow.Author.Needs.{needs}
 use Rattle.limits.proofs.lower_limit.Statement.{statement}
 use Rattle.limits.proofs.lower_limit.Tie as tie
 
-phase-1-requires : tie.Need-phase-1-requires
-phase-1-requires c κs = search needs
-
-slice-aggregate-lower : tie.Need-slice-aggregate-lower
-slice-aggregate-lower c = search needs
-
-lower-requires : tie.Need-lower-requires
-lower-requires c κs = search needs
-
 returns : tie.Need-returns
 returns c = rw (← (c .before .before .phase-1 .ensures .0)) (c .lower .ensures)
 
 pub lower-limit-spec : {M : Type 1} → statement M
-lower-limit-spec = tie.close (tie.spec phase-1-requires slice-aggregate-lower lower-requires returns)
+lower-limit-spec = tie.close (tie.spec (λ c κs. search needs) (λ c. search needs) (λ c κs. search needs) returns)

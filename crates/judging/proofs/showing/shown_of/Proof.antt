@@ -11,24 +11,6 @@ use borrow.Author.Needs.{needs}
 use Rattle.judging.proofs.showing.shown_of.Statement.{statement}
 use Rattle.judging.proofs.showing.shown_of.Tie as tie
 
-cut-lowest-requires : tie.Need-cut-lowest-requires
-cut-lowest-requires c κs = search needs
-
-cut-highest-requires : tie.Need-cut-highest-requires
-cut-highest-requires c κs = search needs
-
-cast-at-least : tie.Need-cast-at-least
-cast-at-least c = search needs
-
-at-least-requires : tie.Need-at-least-requires
-at-least-requires c κs = search needs
-
-enum-known-up : tie.Need-enum-known-up
-enum-known-up c = search needs
-
-enum-told : tie.Need-enum-told
-enum-told c = search needs
-
 returns : tie.Need-returns
 returns c =
     let s = c .before .before .before .before .before .before in
@@ -40,18 +22,6 @@ returns c =
     shown-none (ladder t) rises (s .args .range)
     (none-from (ladder t) rises (isShown (s .args .range)) (from .result) (to .result) shown
     (sym (c .enum-told .given .1) ∙ c .before .before .at-least .ensures))
-
-cast-at-most : tie.Need-cast-at-most
-cast-at-most c = search needs
-
-at-most-requires : tie.Need-at-most-requires
-at-most-requires c κs = search needs
-
-enum-known-down : tie.Need-enum-known-down
-enum-known-down c = search needs
-
-enum-told-2 : tie.Need-enum-told-2
-enum-told-2 c = search needs
 
 returns-2 : tie.Need-returns-2
 returns-2 c =
@@ -95,18 +65,6 @@ returns-4 c =
 pub shown-of-spec : {M : Type 1} → statement M
 shown-of-spec =
     tie.close
-    (tie.spec
-    cut-lowest-requires
-    cut-highest-requires
-    cast-at-least
-    at-least-requires
-    enum-known-up
-    enum-told
-    returns
-    cast-at-most
-    at-most-requires
-    enum-known-down
-    enum-told-2
-    returns-2
-    returns-3
+    (tie.spec (λ c κs. search needs) (λ c κs. search needs) (λ c. search needs) (λ c κs. search needs) (λ c. search needs)
+    (λ c. search needs) returns (λ c. search needs) (λ c κs. search needs) (λ c. search needs) (λ c. search needs) returns-2 returns-3
     returns-4)

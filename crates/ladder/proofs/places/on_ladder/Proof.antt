@@ -9,15 +9,6 @@ use Rattle.ladder.proofs.Tables.Stands.{standing-held, standing-off}
 use Rattle.ladder.proofs.places.on_ladder.Statement.{statement}
 use Rattle.ladder.proofs.places.on_ladder.Tie as tie
 
-standing-of-requires : tie.Need-standing-of-requires
-standing-of-requires c κs = search needs
-
-enum-known-standing : tie.Need-enum-known-standing
-enum-known-standing c = search needs
-
-enum-told : tie.Need-enum-told
-enum-told c = search needs
-
 returns : tie.Need-returns
 returns c =
     let s = c .before .before .before .before in
@@ -30,7 +21,8 @@ returns-2 c =
     let s = c .before .before .before .before .before in
     let t = bandsOf (now (s .args .table)) in
     let band = c .before .standing .given in
-    sym (passed _ (standing-held t (s .pre) (s .args .price) (band .0 .0) (sym (c .before .before .before .standing-of .ensures) ∙ band .1)))
+    sym (passed _ (standing-held t (s .pre) (s .args .price) (band .0 .0) (sym
+    (c .before .before .before .standing-of .ensures) ∙ band .1)))
 
 pub on-ladder-spec : {M : Type 1} → statement M
-on-ladder-spec = tie.close (tie.spec standing-of-requires enum-known-standing enum-told returns returns-2)
+on-ladder-spec = tie.close (tie.spec (λ c κs. search needs) (λ c. search needs) (λ c. search needs) returns returns-2)

@@ -13,15 +13,6 @@ use Rattle.ladder.proofs.Tables.Counting.{place-fits, place-here}
 use Rattle.ladder.proofs.places.place_of.Statement.{statement}
 use Rattle.ladder.proofs.places.place_of.Tie as tie
 
-standing-of-requires : tie.Need-standing-of-requires
-standing-of-requires c κs = search needs
-
-enum-known-standing : tie.Need-enum-known-standing
-enum-known-standing c = search needs
-
-enum-told : tie.Need-enum-told
-enum-told c = search needs
-
 returns : tie.Need-returns
 returns c =
     let s = c .before .before .before .before in
@@ -64,7 +55,12 @@ add-t9 c =
     let k = c .before .before .before .before .before .standing .given .0 .0 in
     let on = stood (c .before .before .before .before) in
     let b = c .before .before .before .band-at in
-    omega (arith, c .before .before .places-below .ensures, place-fits t (s .pre) k (on .index) (b .result) (b .ensures) (s .args .price) on)
+    omega (
+      arith,
+      c .before .before .places-below .ensures,
+      place-fits t (s .pre) k (on .index) (b .result) (b .ensures)
+          (s .args .price) on,
+    )
 
 returns-2 : tie.Need-returns-2
 returns-2 c =
@@ -78,5 +74,5 @@ returns-2 c =
 pub place-of-spec : {M : Type 1} → statement M
 place-of-spec =
     tie.close
-    (tie.spec standing-of-requires enum-known-standing enum-told returns band-at-requires places-below-requires sub-t7 div-t8
-    add-t9 returns-2)
+    (tie.spec (λ c κs. search needs) (λ c. search needs) (λ c. search needs) returns band-at-requires places-below-requires sub-t7
+    div-t8 add-t9 returns-2)

@@ -38,7 +38,11 @@ add-places c =
     let s = c .before .before .before .before .before in
     let t = bandsOf (now (s .args .table)) in
     let b = c .before .band-at in
-    omega (arith, places-fit t (s .pre .0) (c .before .before .before .loop .k) (omega arith) (b .result) (b .ensures), c .width-of .ensures)
+    omega (
+      arith,
+      places-fit t (s .pre .0) (c .before .before .before .loop .k) (omega arith) (b .result) (b .ensures),
+      c .width-of .ensures,
+    )
 
 add-k : tie.Need-add-k Inv-loop μ-loop
 add-k c = search needs
@@ -50,8 +54,14 @@ loop-again : tie.Need-loop-again Inv-loop μ-loop
 loop-again c =
     let s = c .before .before .before .before .before in
     let t = bandsOf (now (s .args .table)) in
-    let b = c .before .band-at in
-    (omega arith, omega (arith, places-more t (s .pre .0) (c .before .before .before .loop .k) (omega arith) (b .result) (b .ensures), c .width-of .ensures))
+    let b = c .before .band-at in (
+      omega arith,
+      omega (
+        arith,
+        places-more t (s .pre .0) (c .before .before .before .loop .k) (omega arith) (b .result) (b .ensures),
+        c .width-of .ensures,
+      ),
+    )
 
 returns : tie.Need-returns Inv-loop μ-loop
 returns c =

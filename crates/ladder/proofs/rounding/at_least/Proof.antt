@@ -12,15 +12,6 @@ use Rattle.ladder.proofs.Tables.Table.{start, ladder-rises, start-held}
 use Rattle.ladder.proofs.rounding.at_least.Statement.{statement}
 use Rattle.ladder.proofs.rounding.at_least.Tie as tie
 
-first-price-requires : tie.Need-first-price-requires
-first-price-requires c κs = search needs
-
-last-price-requires : tie.Need-last-price-requires
-last-price-requires c κs = search needs
-
-product-requires : tie.Need-product-requires
-product-requires c κs = search needs
-
 returns : tie.Need-returns
 returns c =
     let s = c .before .before .before .before .before in
@@ -29,9 +20,6 @@ returns c =
     let high = c .before .product .ensures ∙ ap (λ x. s .args .scale * x) (c .before .before .last-price .ensures) in
     sym (none-at-least (ladder t) (ladder-rises t wf) (start t) (start-held t wf) (s .args .scale) (s .args .y) (omega (arith, high)))
 
-product-requires-2 : tie.Need-product-requires-2
-product-requires-2 c κs = search needs
-
 returns-2 : tie.Need-returns-2
 returns-2 c =
     let s = c .before .before .before .before .before .before .before in
@@ -39,13 +27,16 @@ returns-2 c =
     let wf = s .pre in
     let first = c .before .before .before .before .before .first-price .ensures in
     let low = c .before .product2 .ensures ∙ ap (λ x. s .args .scale * x) first in
-    ap Price first ∙ sym (all-at-least (ladder t) (ladder-rises t wf) (start t) (start-held t wf) (s .args .scale) (s .args .y) (omega (arith, low)))
+    ap Price first ∙ sym (all-at-least (ladder t) (ladder-rises t wf) (start t) (start-held t wf) (s .args .scale) (s .args .y) (omega
+    (arith, low)))
 
 between-requires : tie.Need-between-requires
 between-requires c κs =
     let s = c .before .before .before .before .before .before .before in
-    let high = c .before .before .before .product .ensures ∙ ap (λ x. s .args .scale * x) (c .before .before .before .before .last-price .ensures) in
-    let low = c .before .product2 .ensures ∙ ap (λ x. s .args .scale * x) (c .before .before .before .before .before .first-price .ensures) in
+    let high = c .before .before .before .product .ensures ∙ ap (λ x. s .args .scale * x)
+    (c .before .before .before .before .last-price .ensures) in
+    let low = c .before .product2 .ensures ∙ ap (λ x. s .args .scale * x)
+    (c .before .before .before .before .before .first-price .ensures) in
     (s .pre, (omega (arith, low), omega (arith, high)))
 
 returns-3 : tie.Need-returns-3
@@ -54,5 +45,5 @@ returns-3 c = sym (c .between .ensures .is-above)
 pub at-least-spec : {M : Type 1} → statement M
 at-least-spec =
     tie.close
-    (tie.spec first-price-requires last-price-requires product-requires returns product-requires-2 returns-2 between-requires
-    returns-3)
+    (tie.spec (λ c κs. search needs) (λ c κs. search needs) (λ c κs. search needs) returns (λ c κs. search needs) returns-2
+    between-requires returns-3)

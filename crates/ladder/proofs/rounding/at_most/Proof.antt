@@ -12,15 +12,6 @@ use Rattle.ladder.proofs.Tables.Table.{start, ladder-rises, start-held}
 use Rattle.ladder.proofs.rounding.at_most.Statement.{statement}
 use Rattle.ladder.proofs.rounding.at_most.Tie as tie
 
-first-price-requires : tie.Need-first-price-requires
-first-price-requires c κs = search needs
-
-last-price-requires : tie.Need-last-price-requires
-last-price-requires c κs = search needs
-
-product-requires : tie.Need-product-requires
-product-requires c κs = search needs
-
 returns : tie.Need-returns
 returns c =
     let s = c .before .before .before .before .before in
@@ -29,9 +20,6 @@ returns c =
     let low = c .before .product .ensures ∙ ap (λ x. s .args .scale * x) (c .before .before .before .first-price .ensures) in
     sym (none-at-most (ladder t) (ladder-rises t wf) (start t) (start-held t wf) (s .args .scale) (s .args .y) (omega (arith, low)))
 
-product-requires-2 : tie.Need-product-requires-2
-product-requires-2 c κs = search needs
-
 returns-2 : tie.Need-returns-2
 returns-2 c =
     let s = c .before .before .before .before .before .before .before in
@@ -39,15 +27,14 @@ returns-2 c =
     let wf = s .pre in
     let last = c .before .before .before .before .last-price .ensures in
     let high = c .before .product2 .ensures ∙ ap (λ x. s .args .scale * x) last in
-    ap Price last ∙ sym (all-at-most (ladder t) (ladder-rises t wf) (start t) (start-held t wf) (s .args .scale) (s .args .y) (omega (arith, high)))
-
-add-between : tie.Need-add-between
-add-between c = search needs
+    ap Price last ∙ sym (all-at-most (ladder t) (ladder-rises t wf) (start t) (start-held t wf) (s .args .scale) (s .args .y) (omega
+    (arith, high)))
 
 between-requires : tie.Need-between-requires
 between-requires c κs =
     let s = c .before .before .before .before .before .before .before in
-    let low = c .before .before .before .product .ensures ∙ ap (λ x. s .args .scale * x) (c .before .before .before .before .before .first-price .ensures) in
+    let low = c .before .before .before .product .ensures ∙ ap (λ x. s .args .scale * x)
+    (c .before .before .before .before .before .first-price .ensures) in
     let high = c .before .product2 .ensures ∙ ap (λ x. s .args .scale * x) (c .before .before .before .before .last-price .ensures) in
     (s .pre, (omega (arith, low), omega (arith, high)))
 
@@ -60,5 +47,5 @@ returns-3 c =
 pub at-most-spec : {M : Type 1} → statement M
 at-most-spec =
     tie.close
-    (tie.spec first-price-requires last-price-requires product-requires returns product-requires-2 returns-2 add-between
-    between-requires returns-3)
+    (tie.spec (λ c κs. search needs) (λ c κs. search needs) (λ c κs. search needs) returns (λ c κs. search needs) returns-2
+    (λ c. search needs) between-requires returns-3)

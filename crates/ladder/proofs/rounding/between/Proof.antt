@@ -8,9 +8,6 @@ use Rattle.ladder.proofs.Tables.Gaps.{inside, divisor, starts-below, ga
 use Rattle.ladder.proofs.rounding.between.Statement.{statement}
 use Rattle.ladder.proofs.rounding.between.Tie as tie
 
-bands-below-requires : tie.Need-bands-below-requires
-bands-below-requires c κs = search needs
-
 band-at-requires : tie.Need-band-at-requires
 band-at-requires c κs =
     let s = c .before .before in
@@ -18,23 +15,15 @@ band-at-requires c κs =
     let k = c .bands-below in
     inside t (s .pre .0) (s .args .scale) (s .args .y) (s .pre .1 .0) (s .pre .1 .1) (k .result) (k .ensures)
 
-sub-spreads : tie.Need-sub-spreads
-sub-spreads c = search needs
-
-product-requires : tie.Need-product-requires
-product-requires c κs = search needs
-
 sub-spreads-2 : tie.Need-sub-spreads-2
 sub-spreads-2 c =
     let s = c .before .before .before .before in
     let t = bandsOf (now (s .args .table)) in
     let k = c .before .before .bands-below in
     let b = c .before .band-at in
-    let below = starts-below t (s .pre .0) (s .args .scale) (s .args .y) (s .pre .1 .0) (s .pre .1 .1) (k .result) (k .ensures) (b .result) (b .ensures) in
+    let below = starts-below t (s .pre .0) (s .args .scale) (s .args .y) (s .pre .1 .0) (s .pre .1 .1) (k .result) (k .ensures)
+    (b .result) (b .ensures) in
     omega (arith, c .product .ensures)
-
-product-requires-2 : tie.Need-product-requires-2
-product-requires-2 c κs = search needs
 
 div-spreads : tie.Need-div-spreads
 div-spreads c =
@@ -57,7 +46,8 @@ bounds c =
     let k = c .before .before .before .bands-below in
     let b = c .before .before .band-at in
     rw (c .before .product .ensures, c .product2 .ensures) (
-      spreads-fit t (s .pre .0) (s .args .scale) (s .args .y) (s .pre .1 .0) (s .pre .1 .1) (k .result) (k .ensures) (b .result) (b .ensures),
+      spreads-fit t (s .pre .0) (s .args .scale) (s .args .y) (s .pre .1 .0) (s .pre .1 .1) (k .result) (k .ensures) (b .result)
+          (b .ensures),
       gap-fits t (s .pre .0) (s .args .scale) (s .args .y) (s .pre .1 .0) (s .pre .1 .1) (k .result) (k .ensures) (b .result) (b .ensures),
     )
 
@@ -85,5 +75,5 @@ returns c =
 pub between-spec : {M : Type 1} → statement M
 between-spec =
     tie.close
-    (tie.spec bands-below-requires band-at-requires sub-spreads product-requires sub-spreads-2 product-requires-2 div-spreads
-    cast-below mul-below add-below add-t14 returns)
+    (tie.spec (λ c κs. search needs) band-at-requires (λ c. search needs) (λ c κs. search needs) sub-spreads-2 (λ c κs. search needs)
+    div-spreads cast-below mul-below add-below add-t14 returns)

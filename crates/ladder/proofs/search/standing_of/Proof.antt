@@ -8,21 +8,12 @@ use Rattle.ladder.proofs.Tables.Stands.{off-above, off-below, off-betwe
 use Rattle.ladder.proofs.search.standing_of.Statement.{statement}
 use Rattle.ladder.proofs.search.standing_of.Tie as tie
 
-bands-below-requires : tie.Need-bands-below-requires
-bands-below-requires c κs = search needs
-
-count-requires : tie.Need-count-requires
-count-requires c κs = search needs
-
 returns : tie.Need-returns
 returns c =
     let s = c .before .before .before .before in
     let t = bandsOf (now (s .args .table)) in
     let k = c .before .before .bands-below in
     off-above t (s .pre) (s .args .price) (k .result) (k .ensures) (omega arith)
-
-band-at-requires : tie.Need-band-at-requires
-band-at-requires c κs = search needs
 
 returns-2 : tie.Need-returns-2
 returns-2 c =
@@ -58,4 +49,4 @@ returns-4 c =
 pub standing-of-spec : {M : Type 1} → statement M
 standing-of-spec =
     tie.close
-    (tie.spec bands-below-requires count-requires returns band-at-requires returns-2 rem-if3 returns-3 returns-4)
+    (tie.spec (λ c κs. search needs) (λ c κs. search needs) returns (λ c κs. search needs) returns-2 rem-if3 returns-3 returns-4)

@@ -10,15 +10,6 @@ use Rattle.ladder.proofs.Tables.Stands.{standing-stands, answers, no-an
 use Rattle.ladder.proofs.steps.up.Statement.{statement}
 use Rattle.ladder.proofs.steps.up.Tie as tie
 
-standing-of-requires : tie.Need-standing-of-requires
-standing-of-requires c κs = search needs
-
-enum-known-standing : tie.Need-enum-known-standing
-enum-known-standing c = search needs
-
-enum-told : tie.Need-enum-told
-enum-told c = search needs
-
 returns : tie.Need-returns
 returns c =
     let s = c .before .before .before .before in
@@ -45,4 +36,4 @@ returns-2 c =
     ap Price (c .walk-up .ensures) ∙ answers t (s .pre) (s .args .price) (c .before .before .standing .given .0 .0) (stood (c .before)) _
 
 pub up-spec : {M : Type 1} → statement M
-up-spec = tie.close (tie.spec standing-of-requires enum-known-standing enum-told returns walk-up-requires returns-2)
+up-spec = tie.close (tie.spec (λ c κs. search needs) (λ c. search needs) (λ c. search needs) returns walk-up-requires returns-2)

@@ -69,7 +69,8 @@ ends : (c : tie.After-known-told Inv-loop μ-loop) →
     let mils = c .before .turn .given .0 .0 in
     (mils ≤ l .at - b .bottom) × (times (l .left) (spreadDown (pricesOf (now (s .args .table)))) (l .at) ≡ l .at - mils)
 ends c =
-    walk-ends _ _ _ _ _ _ (way (c .before .before .before)) (c .before .before .before .before .before .before .loop .left) (c .before .turn .given .0 .0)
+    walk-ends _ _ _ _ _ _ (way (c .before .before .before)) (c .before .before .before .before .before .before .loop .left)
+    (c .before .turn .given .0 .0)
     (sym (c .before .before .before .turn-in .ensures) ∙ c .before .turn .given .1)
 
 sub-result : tie.Need-sub-result Inv-loop μ-loop
@@ -86,11 +87,13 @@ enum-known-turn-2 c = search needs
 -- the walk leaves this band with the spreads that are left
 leaves : (c : tie.After-known-told2 Inv-loop μ-loop) →
     let s = c .before .before .before .before .before .before .before .before in
-    times (c .before .turn2 .given .0 .0) (spreadDown (pricesOf (now (s .args .table)))) (c .before .before .before .before .before .band-at .result .bottom) ≡
+    times (c .before .turn2 .given .0 .0) (spreadDown (pricesOf (now (s .args .table))))
+    (c .before .before .before .before .before .band-at .result .bottom) ≡
     times (s .args .n) (spreadDown (pricesOf (now (s .args .table)))) (s .args .price)
 leaves c =
     sym
-    (walk-leaves _ _ _ _ _ _ (way (c .before .before .before)) (c .before .before .before .before .before .before .loop .left) (c .before .turn2 .given .0 .0)
+    (walk-leaves _ _ _ _ _ _ (way (c .before .before .before)) (c .before .before .before .before .before .before .loop .left)
+    (c .before .turn2 .given .0 .0)
     (sym (c .before .before .before .turn-in .ensures) ∙ c .before .turn2 .given .1)) ∙
     c .before .before .before .before .before .before .loop .inv .1
 
@@ -99,7 +102,8 @@ returns-2 c =
     let s = c .before .before .before .before .before .before .before .before .before in
     let t = bandsOf (now (s .args .table)) in
     let b = c .before .before .before .before .before .before .band-at in
-    sym (down-halts t (s .pre .0) (b .result) (rw (c .if1 .taken) at (b .ensures)) (c .before .before .turn2 .given .0 .0)) ∙ leaves (c .before)
+    sym (down-halts t (s .pre .0) (b .result) (rw (c .if1 .taken) at (b .ensures)) (c .before .before .turn2 .given .0 .0)) ∙ leaves
+    (c .before)
 
 sub-k : tie.Need-sub-k Inv-loop μ-loop
 sub-k c = omega arith

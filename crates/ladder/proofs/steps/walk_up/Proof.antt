@@ -79,7 +79,8 @@ ends : (c : tie.After-known-told Inv-loop μ-loop) →
     let mils = c .before .turn .given .0 .0 in
     (mils ≤ b .top - l .at) × (times (l .left) (spreadUp (pricesOf (now (s .args .table)))) (l .at) ≡ l .at + mils)
 ends c =
-    walk-ends _ _ _ _ _ _ (way (c .before .before .before)) (c .before .before .before .before .before .before .loop .left) (c .before .turn .given .0 .0)
+    walk-ends _ _ _ _ _ _ (way (c .before .before .before)) (c .before .before .before .before .before .before .loop .left)
+    (c .before .turn .given .0 .0)
     (sym (c .before .before .before .turn-in .ensures) ∙ c .before .turn .given .1)
 
 add-result : tie.Need-add-result Inv-loop μ-loop
@@ -96,11 +97,13 @@ enum-known-turn-2 c = search needs
 -- the walk leaves this band with the spreads that are left
 leaves : (c : tie.After-known-told2 Inv-loop μ-loop) →
     let s = c .before .before .before .before .before .before .before .before .before in
-    times (c .before .turn2 .given .0 .0) (spreadUp (pricesOf (now (s .args .table)))) (c .before .before .before .before .before .band-at .result .top) ≡
+    times (c .before .turn2 .given .0 .0) (spreadUp (pricesOf (now (s .args .table))))
+    (c .before .before .before .before .before .band-at .result .top) ≡
     times (s .args .n) (spreadUp (pricesOf (now (s .args .table)))) (s .args .price)
 leaves c =
     sym
-    (walk-leaves _ _ _ _ _ _ (way (c .before .before .before)) (c .before .before .before .before .before .before .loop .left) (c .before .turn2 .given .0 .0)
+    (walk-leaves _ _ _ _ _ _ (way (c .before .before .before)) (c .before .before .before .before .before .before .loop .left)
+    (c .before .turn2 .given .0 .0)
     (sym (c .before .before .before .turn-in .ensures) ∙ c .before .turn2 .given .1)) ∙
     c .before .before .before .before .before .before .loop .inv .1
 

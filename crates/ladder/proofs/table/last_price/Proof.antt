@@ -9,9 +9,6 @@ use Rattle.ladder.proofs.Tables.Table.{table-facts, last-is-top}
 use Rattle.ladder.proofs.table.last_price.Statement.{statement}
 use Rattle.ladder.proofs.table.last_price.Tie as tie
 
-count-requires : tie.Need-count-requires
-count-requires c κs = search needs
-
 sub-last : tie.Need-sub-last
 sub-last c =
     let s = c .before .before in
@@ -31,4 +28,4 @@ returns c =
     rw (c .band-at .ensures) (sym (last-is-top t (s .pre) (c .before .count .result - 1) (omega (arith, table-facts t (s .pre) .some))))
 
 pub last-price-spec : {M : Type 1} → statement M
-last-price-spec = tie.close (tie.spec count-requires sub-last band-at-requires returns)
+last-price-spec = tie.close (tie.spec (λ c κs. search needs) sub-last band-at-requires returns)

@@ -67,7 +67,8 @@ loop-again c =
     let l = c .before .before .loop in (
       omega arith,
       simp length-set (l .inv .1),
-      laid-more (l .numbers) phase1 (l .k) (omega arith) (omega (arith, bands-count (l .numbers))) (l .inv .2) (getD phase1 (l .k) noBand) refl,
+      laid-more (l .numbers) phase1 (l .k) (omega arith) (omega (arith, bands-count (l .numbers))) (l .inv .2) (getD phase1
+          (l .k) noBand) refl,
     )
 
 returns : tie.Need-returns Inv-loop μ-loop

@@ -12,16 +12,10 @@ use Rattle.ladder.proofs.turns.turn_in.Tie as tie
 mul-mils : tie.Need-mul-mils
 mul-mils c = record { fits = product-below 32 (omega arith) (search needs) }
 
-cast-t9 : tie.Need-cast-t9
-cast-t9 c = search needs
-
 returns : tie.Need-returns
 returns c =
     let a = c .before .before .args in
     rw (le-leb (a .left * a .spread) (a .room) (omega arith))
-
-div-t10 : tie.Need-div-t10
-div-t10 c = search needs
 
 -- past both tests the spreads do not fit into the room
 over : (c : tie.Joined1) → c .before .args .room < c .before .args .left * c .before .args .spread
@@ -41,4 +35,4 @@ returns-2 c =
     rw (lt-leb (a .left * a .spread) (a .room) (over c))
 
 pub turn-in-spec : {M : Type 1} → statement M
-turn-in-spec = tie.close (tie.spec mul-mils cast-t9 returns div-t10 cast-t5 sub-t11 returns-2)
+turn-in-spec = tie.close (tie.spec mul-mils (λ c. search needs) returns (λ c. search needs) cast-t5 sub-t11 returns-2)

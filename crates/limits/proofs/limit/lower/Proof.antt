@@ -10,26 +10,11 @@ use Rattle.ladder.proofs.Answers.{answered, unanswered}
 use Rattle.limits.proofs.limit.lower.Statement.{statement}
 use Rattle.limits.proofs.limit.lower.Tie as tie
 
-down-requires : tie.Need-down-requires
-down-requires c κs = search needs
-
-enum-known-found : tie.Need-enum-known-found
-enum-known-found c = search needs
-
-enum-told : tie.Need-enum-told
-enum-told c = search needs
-
 returns : tie.Need-returns
 returns c =
     let s = c .before .before .before .before in
     let l = pricesOf (now (s .args .table)) in
     rw (unanswered (s .args .reference) l _ (sym (c .before .before .down .ensures) ∙ c .enum-told .given .1))
-
-rounded-up-requires : tie.Need-rounded-up-requires
-rounded-up-requires c κs = search needs
-
-smaller-requires : tie.Need-smaller-requires
-smaller-requires c κs = search needs
 
 returns-2 : tie.Need-returns-2
 returns-2 c =
@@ -37,8 +22,12 @@ returns-2 c =
     let l = pricesOf (now (s .args .table)) in
     let spreads = times 24 (spreadDown l) (s .args .reference) in
     let found = c .before .before .before .found .given in
-    let r = answered (s .args .reference) l spreads (found .0 .0) (sym (c .before .before .before .before .before .down .ensures) ∙ found .1) in
+    let r = answered (s .args .reference) l spreads (found .0 .0) (sym
+    (c .before .before .before .before .before .down .ensures) ∙ found .1) in
     rw (r .on) (ap Price (c .smaller .ensures ∙ ap₂ min (r .is) (c .before .rounded-up .ensures)))
 
 pub lower-spec : {M : Type 1} → statement M
-lower-spec = tie.close (tie.spec down-requires enum-known-found enum-told returns rounded-up-requires smaller-requires returns-2)
+lower-spec =
+    tie.close
+    (tie.spec (λ c κs. search needs) (λ c. search needs) (λ c. search needs) returns (λ c κs. search needs) (λ c κs. search needs)
+    returns-2)

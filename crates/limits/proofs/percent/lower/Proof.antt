@@ -5,12 +5,6 @@ use Rattle.ladder.specs.declared.Found.the-variants.{Price}
 use Rattle.limits.proofs.percent.lower.Statement.{statement}
 use Rattle.limits.proofs.percent.lower.Tie as tie
 
-on-ladder-requires : tie.Need-on-ladder-requires
-on-ladder-requires c κs = search needs
-
-rounded-up-requires : tie.Need-rounded-up-requires
-rounded-up-requires c κs = search needs
-
 returns : tie.Need-returns
 returns c = rw (sym (c .before .before .on-ladder .ensures) ∙ c .before .if1 .taken) (ap Price (c .rounded-up .ensures))
 
@@ -18,4 +12,4 @@ returns-2 : tie.Need-returns-2
 returns-2 c = rw (sym (c .before .on-ladder .ensures) ∙ c .if1 .left)
 
 pub lower-spec : {M : Type 1} → statement M
-lower-spec = tie.close (tie.spec on-ladder-requires rounded-up-requires returns returns-2)
+lower-spec = tie.close (tie.spec (λ c κs. search needs) (λ c κs. search needs) returns returns-2)

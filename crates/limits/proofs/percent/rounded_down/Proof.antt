@@ -9,21 +9,6 @@ use Rattle.ladder.specs.Layout.{pricesOf}
 use Rattle.limits.proofs.percent.rounded_down.Statement.{statement}
 use Rattle.limits.proofs.percent.rounded_down.Tie as tie
 
-product-requires : tie.Need-product-requires
-product-requires c κs = search needs
-
-at-most-requires : tie.Need-at-most-requires
-at-most-requires c κs = search needs
-
-enum-known-found : tie.Need-enum-known-found
-enum-known-found c = search needs
-
-enum-told : tie.Need-enum-told
-enum-told c = search needs
-
-first-price-requires : tie.Need-first-price-requires
-first-price-requires c κs = search needs
-
 -- what rounding found, against the percentage of the reference
 found : (c : tie.After-at-most) →
     let s = c .before .before .before in
@@ -45,4 +30,5 @@ returns-2 c =
 pub rounded-down-spec : {M : Type 1} → statement M
 rounded-down-spec =
     tie.close
-    (tie.spec product-requires at-most-requires enum-known-found enum-told first-price-requires returns returns-2)
+    (tie.spec (λ c κs. search needs) (λ c κs. search needs) (λ c. search needs) (λ c. search needs) (λ c κs. search needs) returns
+    returns-2)

@@ -9,21 +9,6 @@ use Rattle.ladder.specs.Layout.{pricesOf}
 use Rattle.limits.proofs.percent.rounded_up.Statement.{statement}
 use Rattle.limits.proofs.percent.rounded_up.Tie as tie
 
-product-requires : tie.Need-product-requires
-product-requires c κs = search needs
-
-at-least-requires : tie.Need-at-least-requires
-at-least-requires c κs = search needs
-
-enum-known-found : tie.Need-enum-known-found
-enum-known-found c = search needs
-
-enum-told : tie.Need-enum-told
-enum-told c = search needs
-
-last-price-requires : tie.Need-last-price-requires
-last-price-requires c κs = search needs
-
 -- what rounding found, against the percentage of the reference
 found : (c : tie.After-at-least) →
     let s = c .before .before .before in
@@ -45,4 +30,5 @@ returns-2 c =
 pub rounded-up-spec : {M : Type 1} → statement M
 rounded-up-spec =
     tie.close
-    (tie.spec product-requires at-least-requires enum-known-found enum-told last-price-requires returns returns-2)
+    (tie.spec (λ c κs. search needs) (λ c κs. search needs) (λ c. search needs) (λ c. search needs) (λ c κs. search needs) returns
+    returns-2)

@@ -5,12 +5,6 @@ use Rattle.ladder.specs.declared.Found.the-variants.{Price}
 use Rattle.limits.proofs.percent.upper.Statement.{statement}
 use Rattle.limits.proofs.percent.upper.Tie as tie
 
-on-ladder-requires : tie.Need-on-ladder-requires
-on-ladder-requires c κs = search needs
-
-rounded-down-requires : tie.Need-rounded-down-requires
-rounded-down-requires c κs = search needs
-
 returns : tie.Need-returns
 returns c = rw (sym (c .before .before .on-ladder .ensures) ∙ c .before .if1 .taken) (ap Price (c .rounded-down .ensures))
 
@@ -18,4 +12,4 @@ returns-2 : tie.Need-returns-2
 returns-2 c = rw (sym (c .before .on-ladder .ensures) ∙ c .if1 .left)
 
 pub upper-spec : {M : Type 1} → statement M
-upper-spec = tie.close (tie.spec on-ladder-requires rounded-down-requires returns returns-2)
+upper-spec = tie.close (tie.spec (λ c κs. search needs) (λ c κs. search needs) returns returns-2)

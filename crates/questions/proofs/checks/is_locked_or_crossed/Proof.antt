@@ -3,24 +3,6 @@ use borrow.Author.Needs.{needs}
 use Rattle.questions.proofs.checks.is_locked_or_crossed.Statement.{statement}
 use Rattle.questions.proofs.checks.is_locked_or_crossed.Tie as tie
 
-enum-told : tie.Need-enum-told
-enum-told c = search needs
-
-enum-known-queues : tie.Need-enum-known-queues
-enum-known-queues c = search needs
-
-is-below-requires : tie.Need-is-below-requires
-is-below-requires c κs = search needs
-
-enum-known-queues-2 : tie.Need-enum-known-queues-2
-enum-known-queues-2 c = search needs
-
-enum-known-queues-3 : tie.Need-enum-known-queues-3
-enum-known-queues-3 c = search needs
-
-enum-known-queues-4 : tie.Need-enum-known-queues-4
-enum-known-queues-4 c = search needs
-
 returns : tie.Need-returns
 returns c = rw (c .enum-told .given .1)
 
@@ -39,15 +21,5 @@ returns-5 c = rw (c .before .queues4 .given .1)
 pub is-locked-or-crossed-spec : {M : Type 1} → statement M
 is-locked-or-crossed-spec =
     tie.close
-    (tie.spec
-    enum-told
-    enum-known-queues
-    is-below-requires
-    enum-known-queues-2
-    enum-known-queues-3
-    enum-known-queues-4
-    returns
-    returns-2
-    returns-3
-    returns-4
-    returns-5)
+    (tie.spec (λ c. search needs) (λ c. search needs) (λ c κs. search needs) (λ c. search needs) (λ c. search needs)
+    (λ c. search needs) returns returns-2 returns-3 returns-4 returns-5)

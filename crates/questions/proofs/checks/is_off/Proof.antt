@@ -3,15 +3,6 @@ use borrow.Author.Needs.{needs}
 use Rattle.questions.proofs.checks.is_off.Statement.{statement}
 use Rattle.questions.proofs.checks.is_off.Tie as tie
 
-enum-told : tie.Need-enum-told
-enum-told c = search needs
-
-enum-known-reference : tie.Need-enum-known-reference
-enum-known-reference c = search needs
-
-on-ladder-requires : tie.Need-on-ladder-requires
-on-ladder-requires c κs = search needs
-
 returns : tie.Need-returns
 returns c = rw (c .enum-told .given .1)
 
@@ -19,5 +10,4 @@ returns-2 : tie.Need-returns-2
 returns-2 c = rw (c .before .before .reference .given .1, c .on-ladder .ensures)
 
 pub is-off-spec : {M : Type 1} → statement M
-is-off-spec =
-    tie.close (tie.spec enum-told enum-known-reference on-ladder-requires returns returns-2)
+is-off-spec = tie.close (tie.spec (λ c. search needs) (λ c. search needs) (λ c κs. search needs) returns returns-2)

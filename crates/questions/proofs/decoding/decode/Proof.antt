@@ -15,15 +15,6 @@ use Rattle.questions.proofs.decoding.decode.Tie as tie
 returns : tie.Need-returns
 returns c = rw (ne-eqb _ _ (c .if1 .taken))
 
-codes-of-requires : tie.Need-codes-of-requires
-codes-of-requires c κs = search needs
-
-number-at-requires : tie.Need-number-at-requires
-number-at-requires c κs = search needs
-
-references-of-requires : tie.Need-references-of-requires
-references-of-requires c κs = search needs
-
 asked : (s : List ℕ) (c : Codes) (p : ℕ) (r : References) → length s ≡ questionBytes → c ≡ codesOf s → p ≡ priceOf s → r ≡ referencesOf s →
     Asked (record { codes = c; price = p; references = r }) ≡ decoded s
 asked s c p r n e f g = rw (eq-eqb (length s) questionBytes n, e, f, g)
@@ -34,4 +25,4 @@ returns-2 c =
     (c .references-of .ensures)
 
 pub decode-spec : {M : Type 1} → statement M
-decode-spec = tie.close (tie.spec returns codes-of-requires number-at-requires references-of-requires returns-2)
+decode-spec = tie.close (tie.spec returns (λ c κs. search needs) (λ c κs. search needs) (λ c κs. search needs) returns-2)

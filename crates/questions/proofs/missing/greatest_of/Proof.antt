@@ -3,21 +3,6 @@ use borrow.Author.Needs.{needs}
 use Rattle.questions.proofs.missing.greatest_of.Statement.{statement}
 use Rattle.questions.proofs.missing.greatest_of.Tie as tie
 
-enum-told : tie.Need-enum-told
-enum-told c = search needs
-
-enum-known-a : tie.Need-enum-known-a
-enum-known-a c = search needs
-
-enum-told-2 : tie.Need-enum-told-2
-enum-told-2 c = search needs
-
-enum-known-b : tie.Need-enum-known-b
-enum-known-b c = search needs
-
-larger-requires : tie.Need-larger-requires
-larger-requires c κs = search needs
-
 returns : tie.Need-returns
 returns c = rw (c .enum-told .given .1)
 
@@ -30,12 +15,5 @@ returns-3 c = rw (c .before .before .before .before .before .a .given .1, c .bef
 pub greatest-of-spec : {M : Type 1} → statement M
 greatest-of-spec =
     tie.close
-    (tie.spec
-    enum-told
-    enum-known-a
-    enum-told-2
-    enum-known-b
-    larger-requires
-    returns
-    returns-2
+    (tie.spec (λ c. search needs) (λ c. search needs) (λ c. search needs) (λ c. search needs) (λ c κs. search needs) returns returns-2
     returns-3)

@@ -31,13 +31,19 @@ queues m =
     (m .match .came)
 
 returns-4 : tie.Need-returns-4
-returns-4 c = all-known _ _ 1 1 _ (c .before .match2 .keys1) (c .match3 .keys1) refl refl (queues (c .before .before)) (c .before .before .before .if1 .left)
+returns-4 c =
+    all-known _ _ 1 1 _ (c .before .match2 .keys1) (c .match3 .keys1) refl refl (queues (c .before .before))
+    (c .before .before .before .if1 .left)
 
 returns-5 : tie.Need-returns-5
-returns-5 c = all-known _ _ 1 2 _ (c .before .match2 .keys1) (c .match3 .keys2) refl refl (queues (c .before .before)) (c .before .before .before .if1 .left)
+returns-5 c =
+    all-known _ _ 1 2 _ (c .before .match2 .keys1) (c .match3 .keys2) refl refl (queues (c .before .before))
+    (c .before .before .before .if1 .left)
 
 returns-6 : tie.Need-returns-6
-returns-6 c = all-known _ _ 1 3 _ (c .before .match2 .keys1) (c .match3 .keys3) refl refl (queues (c .before .before)) (c .before .before .before .if1 .left)
+returns-6 c =
+    all-known _ _ 1 3 _ (c .before .match2 .keys1) (c .match3 .keys3) refl refl (queues (c .before .before))
+    (c .before .before .before .if1 .left)
 
 returns-7 : tie.Need-returns-7
 returns-7 c = unknown-type _ _ (rw (c .match3 .keys4))
@@ -46,13 +52,19 @@ returns-8 : tie.Need-returns-8
 returns-8 c = let n = c .match3 .rest in unknown-type _ _ (no-type _ (n .0 .0 .0 .1) (n .0 .0 .1) (n .0 .1))
 
 returns-9 : tie.Need-returns-9
-returns-9 c = all-known _ _ 2 1 _ (c .before .match2 .keys2) (c .match4 .keys1) refl refl (queues (c .before .before)) (c .before .before .before .if1 .left)
+returns-9 c =
+    all-known _ _ 2 1 _ (c .before .match2 .keys2) (c .match4 .keys1) refl refl (queues (c .before .before))
+    (c .before .before .before .if1 .left)
 
 returns-10 : tie.Need-returns-10
-returns-10 c = all-known _ _ 2 2 _ (c .before .match2 .keys2) (c .match4 .keys2) refl refl (queues (c .before .before)) (c .before .before .before .if1 .left)
+returns-10 c =
+    all-known _ _ 2 2 _ (c .before .match2 .keys2) (c .match4 .keys2) refl refl (queues (c .before .before))
+    (c .before .before .before .if1 .left)
 
 returns-11 : tie.Need-returns-11
-returns-11 c = all-known _ _ 2 3 _ (c .before .match2 .keys2) (c .match4 .keys3) refl refl (queues (c .before .before)) (c .before .before .before .if1 .left)
+returns-11 c =
+    all-known _ _ 2 3 _ (c .before .match2 .keys2) (c .match4 .keys3) refl refl (queues (c .before .before))
+    (c .before .before .before .if1 .left)
 
 returns-12 : tie.Need-returns-12
 returns-12 c = unknown-type _ _ (rw (c .match4 .keys4))

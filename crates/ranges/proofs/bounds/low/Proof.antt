@@ -5,31 +5,10 @@ use Rattle.ranges.specs.Bounds.{asReference}
 use Rattle.ranges.proofs.bounds.low.Statement.{statement}
 use Rattle.ranges.proofs.bounds.low.Tie as tie
 
-enum-told : tie.Need-enum-told
-enum-told c = search needs
-
-enum-known-reference : tie.Need-enum-known-reference
-enum-known-reference c = search needs
-
-lower-requires : tie.Need-lower-requires
-lower-requires c κs = search needs
-
-reference-found-requires : tie.Need-reference-found-requires
-reference-found-requires c κs = search needs
-
-returns : tie.Need-returns
-returns c = search needs
-
 returns-2 : tie.Need-returns-2
 returns-2 c = rw (c .before .before .before .reference .given .1) (c .reference-found .ensures ∙ ap asReference (c .before .lower .ensures))
 
 pub low-spec : {M : Type 1} → statement M
 low-spec =
     tie.close
-    (tie.spec
-    enum-told
-    enum-known-reference
-    lower-requires
-    reference-found-requires
-    returns
-    returns-2)
+    (tie.spec (λ c. search needs) (λ c. search needs) (λ c κs. search needs) (λ c κs. search needs) (λ c. search needs) returns-2)

@@ -7,61 +7,18 @@ use Rattle.ranges.specs.Permitted.{highestOf}
 use Rattle.ranges.proofs.permitted.highest_of.Statement.{statement}
 use Rattle.ranges.proofs.permitted.highest_of.Tie as tie
 
-last-price-requires : tie.Need-last-price-requires
-last-price-requires c κs = search needs
-
-enum-told : tie.Need-enum-told
-enum-told c = search needs
-
-ask-of-requires : tie.Need-ask-of-requires
-ask-of-requires c κs = search needs
-
-price-or-requires : tie.Need-price-or-requires
-price-or-requires c κs = search needs
-
-enum-told-2 : tie.Need-enum-told-2
-enum-told-2 c = search needs
-
-ask-of-requires-2 : tie.Need-ask-of-requires-2
-ask-of-requires-2 c κs = search needs
-
-nine-spreads-above-requires : tie.Need-nine-spreads-above-requires
-nine-spreads-above-requires c κs = search needs
-
-price-or-requires-2 : tie.Need-price-or-requires-2
-price-or-requires-2 c κs = search needs
-
-enum-told-3 : tie.Need-enum-told-3
-enum-told-3 c = search needs
-
-enum-told-4 : tie.Need-enum-told-4
-enum-told-4 c = search needs
-
-sell-highest-requires : tie.Need-sell-highest-requires
-sell-highest-requires c κs = search needs
-
-enum-told-5 : tie.Need-enum-told-5
-enum-told-5 c = search needs
-
-sell-highest-requires-2 : tie.Need-sell-highest-requires-2
-sell-highest-requires-2 c κs = search needs
-
-enum-told-6 : tie.Need-enum-told-6
-enum-told-6 c = search needs
-
-bid-of-requires : tie.Need-bid-of-requires
-bid-of-requires c κs = search needs
-
-price-or-requires-3 : tie.Need-price-or-requires-3
-price-or-requires-3 c κs = search needs
-
 returns : tie.Need-returns
 unfolding highestOf
-returns c = rw (c .before .before .enum-told .given .1) (c .price-or .ensures ∙ ap₂ priceOr (c .before .before .before .before .last-price .ensures) (c .before .ask-of .ensures))
+returns c =
+    rw (c .before .before .enum-told .given .1) (c .price-or .ensures ∙ ap₂ priceOr
+    (c .before .before .before .before .last-price .ensures) (c .before .ask-of .ensures))
 
 returns-2 : tie.Need-returns-2
 unfolding highestOf
-returns-2 c = rw (c .before .before .before .enum-told2 .given .1) (c .price-or2 .ensures ∙ ap₂ priceOr (c .before .before .before .before .before .last-price .ensures) (c .before .nine-spreads-above .ensures ∙ ap (nineSpreadsAbove _) (c .before .before .ask-of2 .ensures)))
+returns-2 c =
+    rw (c .before .before .before .enum-told2 .given .1) (c .price-or2 .ensures ∙ ap₂ priceOr
+    (c .before .before .before .before .before .last-price .ensures) (c .before .nine-spreads-above .ensures ∙ ap (nineSpreadsAbove _)
+    (c .before .before .ask-of2 .ensures)))
 
 returns-3 : tie.Need-returns-3
 unfolding highestOf
@@ -77,31 +34,14 @@ returns-5 c = rw (c .before .enum-told5 .given .1) (c .sell-highest2 .ensures)
 
 returns-6 : tie.Need-returns-6
 unfolding highestOf
-returns-6 c = rw (c .before .before .enum-told6 .given .1) (c .price-or3 .ensures ∙ ap₂ priceOr (c .before .before .before .before .last-price .ensures) (c .before .bid-of .ensures))
+returns-6 c =
+    rw (c .before .before .enum-told6 .given .1) (c .price-or3 .ensures ∙ ap₂ priceOr
+    (c .before .before .before .before .last-price .ensures) (c .before .bid-of .ensures))
 
 pub highest-of-spec : {M : Type 1} → statement M
 highest-of-spec =
     tie.close
-    (tie.spec
-    last-price-requires
-    enum-told
-    ask-of-requires
-    price-or-requires
-    enum-told-2
-    ask-of-requires-2
-    nine-spreads-above-requires
-    price-or-requires-2
-    enum-told-3
-    enum-told-4
-    sell-highest-requires
-    enum-told-5
-    sell-highest-requires-2
-    enum-told-6
-    bid-of-requires
-    price-or-requires-3
-    returns
-    returns-2
-    returns-3
-    returns-4
-    returns-5
-    returns-6)
+    (tie.spec (λ c κs. search needs) (λ c. search needs) (λ c κs. search needs) (λ c κs. search needs) (λ c. search needs)
+    (λ c κs. search needs) (λ c κs. search needs) (λ c κs. search needs) (λ c. search needs) (λ c. search needs)
+    (λ c κs. search needs) (λ c. search needs) (λ c κs. search needs) (λ c. search needs) (λ c κs. search needs)
+    (λ c κs. search needs) returns returns-2 returns-3 returns-4 returns-5 returns-6)

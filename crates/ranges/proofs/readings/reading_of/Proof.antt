@@ -6,60 +6,62 @@ use Rattle.ranges.specs.Readings.{readingBy, readingOf}
 use Rattle.ranges.proofs.readings.reading_of.Statement.{statement}
 use Rattle.ranges.proofs.readings.reading_of.Tie as tie
 
-choose-requires : tie.Need-choose-requires
-choose-requires c κs = search needs
-
-enum-known-choice : tie.Need-enum-known-choice
-enum-known-choice c = search needs
-
-enum-told : tie.Need-enum-told
-enum-told c = search needs
-
 returns : tie.Need-returns
 unfolding readingOf
 returns c = rw (← (c .before .before .choose .ensures), c .enum-told .given .1)
 
-any-off-requires : tie.Need-any-off-requires
-any-off-requires c κs = search needs
-
 returns-2 : tie.Need-returns-2
 unfolding readingOf readingBy
-returns-2 c = rw (← (c .before .before .before .before .before .choose .ensures), c .before .before .before .choice .given .1, ← (c .before .any-off .ensures), c .if1 .taken)
-
-do-disagree-requires : tie.Need-do-disagree-requires
-do-disagree-requires c κs = search needs
+returns-2 c =
+    rw (
+      ← (c .before .before .before .before .before .choose .ensures),
+      c .before .before .before .choice .given .1,
+      ← (c .before .any-off .ensures),
+      c .if1 .taken,
+    )
 
 returns-3 : tie.Need-returns-3
 unfolding readingOf readingBy
-returns-3 c = rw (← (c .before .before .before .before .before .before .before .choose .ensures), c .before .before .before .before .before .choice .given .1, ← (c .before .before .before .any-off .ensures), c .before .before .if1 .left, ← (c .before .do-disagree .ensures), c .if2 .taken)
-
-is-unopposed-requires : tie.Need-is-unopposed-requires
-is-unopposed-requires c κs = search needs
+returns-3 c =
+    rw (
+      ← (c .before .before .before .before .before .before .before .choose .ensures),
+      c .before .before .before .before .before .choice .given .1,
+      ← (c .before .before .before .any-off .ensures),
+      c .before .before .if1 .left,
+      ← (c .before .do-disagree .ensures),
+      c .if2 .taken,
+    )
 
 returns-4 : tie.Need-returns-4
 unfolding readingOf readingBy
-returns-4 c = rw (← (c .before .before .before .before .before .before .before .before .before .choose .ensures), c .before .before .before .before .before .before .before .choice .given .1, ← (c .before .before .before .before .before .any-off .ensures), c .before .before .before .before .if1 .left, ← (c .before .before .before .do-disagree .ensures), c .before .before .if2 .left, ← (c .before .is-unopposed .ensures), c .if3 .taken)
-
-range-of-requires : tie.Need-range-of-requires
-range-of-requires c κs = search needs
+returns-4 c =
+    rw (
+      ← (c .before .before .before .before .before .before .before .before .before .choose .ensures),
+      c .before .before .before .before .before .before .before .choice .given .1,
+      ← (c .before .before .before .before .before .any-off .ensures),
+      c .before .before .before .before .if1 .left,
+      ← (c .before .before .before .do-disagree .ensures),
+      c .before .before .if2 .left,
+      ← (c .before .is-unopposed .ensures),
+      c .if3 .taken,
+    )
 
 returns-5 : tie.Need-returns-5
 unfolding readingOf readingBy
-returns-5 c = rw (← (c .before .before .before .before .before .before .before .before .before .before .choose .ensures), c .before .before .before .before .before .before .before .before .choice .given .1, ← (c .before .before .before .before .before .before .any-off .ensures), c .before .before .before .before .before .if1 .left, ← (c .before .before .before .before .do-disagree .ensures), c .before .before .before .if2 .left, ← (c .before .before .is-unopposed .ensures), c .before .if3 .left) (ap Permitted (c .range-of .ensures))
+returns-5 c =
+    rw (
+      ← (c .before .before .before .before .before .before .before .before .before .before .choose .ensures),
+      c .before .before .before .before .before .before .before .before .choice .given .1,
+      ← (c .before .before .before .before .before .before .any-off .ensures),
+      c .before .before .before .before .before .if1 .left,
+      ← (c .before .before .before .before .do-disagree .ensures),
+      c .before .before .before .if2 .left,
+      ← (c .before .before .is-unopposed .ensures),
+      c .before .if3 .left,
+    ) (ap Permitted (c .range-of .ensures))
 
 pub reading-of-spec : {M : Type 1} → statement M
 reading-of-spec =
     tie.close
-    (tie.spec
-    choose-requires
-    enum-known-choice
-    enum-told
-    returns
-    any-off-requires
-    returns-2
-    do-disagree-requires
-    returns-3
-    is-unopposed-requires
-    returns-4
-    range-of-requires
-    returns-5)
+    (tie.spec (λ c κs. search needs) (λ c. search needs) (λ c. search needs) returns (λ c κs. search needs) returns-2
+    (λ c κs. search needs) returns-3 (λ c κs. search needs) returns-4 (λ c κs. search needs) returns-5)

@@ -5,9 +5,6 @@ use Rattle.trades.specs.Trades.{tradeVerdict}
 use Rattle.trades.proofs.verdicts.verdict_on.Statement.{statement}
 use Rattle.trades.proofs.verdicts.verdict_on.Tie as tie
 
-is-outside-requires : tie.Need-is-outside-requires
-is-outside-requires c κs = search needs
-
 returns : tie.Need-returns
 unfolding tradeVerdict
 returns c = rw (← (c .before .is-outside .ensures), c .if1 .taken)
@@ -18,11 +15,25 @@ returns-2 c = rw (← (c .before .before .before .is-outside .ensures), c .befor
 
 returns-3 : tie.Need-returns-3
 unfolding tradeVerdict
-returns-3 c = rw (← (c .before .before .before .before .before .is-outside .ensures), c .before .before .before .before .if1 .left, le-ltb _ _ (c .before .before .if2 .left), lt-ltb _ _ (c .if3 .taken))
+returns-3 c =
+    rw (
+      ← (c .before .before .before .before .before .is-outside .ensures),
+      c .before .before .before .before .if1 .left,
+      le-ltb _ _
+          (c .before .before .if2 .left),
+      lt-ltb _ _ (c .if3 .taken),
+    )
 
 returns-4 : tie.Need-returns-4
 unfolding tradeVerdict
-returns-4 c = rw (← (c .before .before .before .before .before .is-outside .ensures), c .before .before .before .before .if1 .left, le-ltb _ _ (c .before .before .if2 .left), le-ltb _ _ (c .if3 .left))
+returns-4 c =
+    rw (
+      ← (c .before .before .before .before .before .is-outside .ensures),
+      c .before .before .before .before .if1 .left,
+      le-ltb _ _
+          (c .before .before .if2 .left),
+      le-ltb _ _ (c .if3 .left),
+    )
 
 pub verdict-on-spec : {M : Type 1} → statement M
-verdict-on-spec = tie.close (tie.spec is-outside-requires returns returns-2 returns-3 returns-4)
+verdict-on-spec = tie.close (tie.spec (λ c κs. search needs) returns returns-2 returns-3 returns-4)
