@@ -11,7 +11,7 @@ fn from_bytes(a: u8, b: u8, c: u8, d: u8) -> u32
     (a as u32) + (b as u32) * 256 + (c as u32) * 65536 + (d as u32) * 16777216
 }
 
-// The number of the four bytes from a place on.
+// The number of the four bytes from a byte on.
 pub(crate) fn number_at(s: &[u8], at: usize) -> u32
     requires { ⌜ at + 4 ≤ length (now s) ⌝ }
     ensures { λ r. ⌜ r ≡ number at (now (s .entry)) ⌝ }
