@@ -1,5 +1,5 @@
 -- Bounds cut by the nine-fold rule: a ladder price lies within them exactly where it is shown.
-use mathlib.Core.Path.{_≡_, refl}
+use mathlib.Core.Path.{_≡_}
 use Prim.Native.Nat.{ℕ, _*_, _≤_, _<_}
 use native.Mathlib.Omega.{arith}
 use mathlib.Core.Bool.{_&&_}

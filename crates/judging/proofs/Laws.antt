@@ -1,4 +1,5 @@
 -- The laws of specs/Laws.antt, proved.
+use mathlib.Core.Logic.{_⊎_, inl, inr}
 use mathlib.Core.Path.{_≡_, refl, _∙_}
 use Prim.Native.Nat.{ℕ, _≤_, _<_}
 use native.Mathlib.Omega.{arith}
@@ -9,11 +10,16 @@ use lib.ListN.{length}
 use borrow.Author.Tests.{eqb-true, eqb-false, eq-eqb, ne-eqb}
 use Rattle.ladder.specs.Bands.{Table, wellFormed}
 use Rattle.ladder.specs.Ladder.{ladder, isLadderPrice}
-use Rattle.ladder.specs.Search.{holds}
+use Rattle.ladder.specs.declared.Found.{Found}
+use Rattle.ladder.specs.declared.Found.the-variants.{Price, Nothing}
+use Rattle.ladder.specs.Search.{holds, first, latest, orElse}
+use Rattle.ladder.proofs.Lists.Extremes.{Result, Least, Greatest, first-result, latest-result}
 use Rattle.ladder.proofs.Lists.Truth.{and-left, and-right, true-of}
 use Rattle.ladder.proofs.Laws.{the-ladder, rising, never-zero, listed}
 use Rattle.limits.specs.declared.Percentage.{Percentage}
-use Rattle.questions.specs.Record.{questionBytes, codesOf, priceOf, referencesOf}
+use Rattle.questions.specs.declared.Decoded.{Decoded}
+use Rattle.questions.specs.declared.Decoded.the-variants.{Asked, WrongLength}
+use Rattle.questions.specs.Record.{questionBytes, codesOf, priceOf, referencesOf, decoded}
 use Rattle.ranges.specs.declared.Range.{Range}
 use Rattle.ranges.specs.declared.Refusal.{Refusal}
 use Rattle.ranges.specs.declared.Refusal.the-variants.{UnknownCode, OffLadder, Disagreement, NoOpposite}
@@ -26,8 +32,8 @@ use Rattle.judging.specs.Shown.{isShown, shownOf}
 use Rattle.judging.specs.Cutting.{cutLowest, cutHighest}
 use Rattle.judging.specs.Verdicts.{verdictOf}
 use Rattle.judging.specs.Numbers.{refusalNumber, verdictNumber}
-use Rattle.judging.specs.Answers.{noneShown, answerBy, judged}
-use Rattle.judging.specs.Laws.{ShownIsExactly, notRefused, SameRange, AnyOrderPrice, isQuestionNumber, isRefusal, QuestionNumbers, JudgingLaws}
+use Rattle.judging.specs.Answers.{noneShown, answerOn, answerBy, answerDecoded, judged}
+use Rattle.judging.specs.Laws.{ShownIsExactly, LadderRange, RangeOrNone, notRefused, SameRange, AnyOrderPrice, isQuestionNumber, isRefusal, QuestionNumbers, JudgingLaws}
 use Rattle.judging.proofs.Cuts.{window}
 use Rattle.judging.proofs.Windows.{exactly}
 use Rattle.judging.proofs.Acceptance.{accepts, judged-number}
@@ -38,6 +44,44 @@ unfolding shownOf
 shown-is-exactly t wf range p on =
     exactly (ladder t) (rising t wf) (isShown range) (cutLowest (range .lowest) (range .«nine_fold»)) (cutHighest (range .highest) (range .«nine_fold»))
     (window t wf range _ _ refl refl) p (listed t wf p on) (never-zero t wf p on)
+
+-- ---- a range, or none
+
+range-shown : (t : Table) → T (wellFormed t) → (range : Range) (p : ℕ) →
+    LadderRange t (answerOn (ladder t) range p) ⊎ ((answerOn (ladder t) range p .lowest ≡ 0) × (answerOn (ladder t) range p .highest ≡ 0))
+unfolding shownOf
+range-shown t wf range p =
+    go (first (isShown range) (ladder t)) (latest (isShown range) (ladder t)) (first-result (isShown range) (ladder t) (rising t wf))
+    (latest-result (isShown range) (ladder t) (rising t wf))
+  where
+    n : ℕ
+    n = verdictNumber (verdictOf (ladder t) range p)
+
+    on : (q : ℕ) → T (holds q (ladder t)) → T (isLadderPrice q t)
+    on q h = rw (the-ladder t wf q) at h
+
+    go : (f g : Found) → Result Least (isShown range) (ladder t) f → Result Greatest (isShown range) (ladder t) g →
+        LadderRange t (record { number = n; lowest = orElse 0 f; highest = orElse 0 g }) ⊎ ((orElse 0 f ≡ 0) × (orElse 0 g ≡ 0))
+    go (Price a) (Price b) u v =
+        inl (record { lowest-on = on a (u .on); highest-on = on b (v .on); rises = u .extreme b (v .on) (v .passes) })
+    go (Price a) Nothing u v = absurd (v a (u .on) (u .passes))
+    go Nothing (Price b) u v = absurd (u b (v .on) (v .passes))
+    go Nothing Nothing u v = inr (refl, refl)
+
+pub range-or-none : RangeOrNone
+unfolding judged
+range-or-none t wf percent s = go (decoded s)
+  where
+    by-reading : (reading : Reading) (p : ℕ) →
+        LadderRange t (answerBy (ladder t) reading p) ⊎ ((answerBy (ladder t) reading p .lowest ≡ 0) × (answerBy (ladder t) reading p .highest ≡ 0))
+    by-reading (Permitted range) p = range-shown t wf range p
+    by-reading (Refused refusal) p = inr (refl, refl)
+
+    go : (d : Decoded) →
+        LadderRange t (answerDecoded (ladder t) percent d) ⊎
+        ((answerDecoded (ladder t) percent d .lowest ≡ 0) × (answerDecoded (ladder t) percent d .highest ≡ 0))
+    go (Asked q) = by-reading (readingOf (ladder t) percent (q .codes) (q .references)) (q .price)
+    go WrongLength = inr (refl, refl)
 
 -- ---- any order price
 
@@ -89,7 +133,8 @@ any-order-price t wf percent s u ns nu same h =
     p = priceOf u
 
     go : (reading : Reading) → judged (ladder t) percent s ≡ answerBy (ladder t) reading (priceOf s) →
-        judged (ladder t) percent u ≡ answerBy (ladder t) reading p → SameRange t percent s u
+        judged (ladder t) percent u ≡ answerBy (ladder t) reading p →
+        SameRange t (judged (ladder t) percent s) (judged (ladder t) percent u) p
     go (Refused x) a b = absurd (not-judged x (rw a at h))
     go (Permitted range) a b =
         record {
@@ -155,4 +200,4 @@ question-numbers l percent s =
 -- ---- all of them
 
 pub judging-laws : JudgingLaws
-judging-laws = record { shown-is-exactly = shown-is-exactly; any-order-price = any-order-price; question-numbers = question-numbers }
+judging-laws = record { shown-is-exactly = shown-is-exactly; range-or-none = range-or-none; any-order-price = any-order-price; question-numbers = question-numbers }

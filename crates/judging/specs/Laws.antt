@@ -1,4 +1,5 @@
 -- The laws of judging. Each is proved in proofs/Laws.antt: AnyOrderPrice as any-order-price, and so on.
+use mathlib.Core.Logic.{_⊎_}
 use mathlib.Core.Path.{_≡_}
 use Prim.Native.Nat.{ℕ, _≤_, _<_}
 use mathlib.Core.Bool.{Bool, _&&_, _||_}
@@ -20,6 +21,19 @@ ShownIsExactly =
     (t : Table) → T (wellFormed t) → (range : Range) (p : ℕ) → T (isLadderPrice p t) →
     isShown range p ≡ (leb (shownOf (ladder t) range .lowest) p && leb p (shownOf (ladder t) range .highest))
 
+-- a range that goes from a ladder price to one that is not lower
+pub record LadderRange (t : Table) (a : Answer) : Type 0 where
+  pub lowest-on : T (isLadderPrice (a .lowest) t)
+  pub highest-on : T (isLadderPrice (a .highest) t)
+  pub rises : a .lowest ≤ a .highest
+
+-- Every answer shows such a range, or 0 and 0.
+abbrev pub RangeOrNone : Type 0
+RangeOrNone =
+    (t : Table) → T (wellFormed t) → (percent : Percentage) (s : Bytes) →
+    LadderRange t (judged (ladder t) percent s) ⊎
+    ((judged (ladder t) percent s .lowest ≡ 0) × (judged (ladder t) percent s .highest ≡ 0))
+
 -- answered 0 or 6 to 10: "a question not refused for codes, references or order type"
 abbrev pub notRefused : ℕ → Bool
 notRefused n = eqb n 0 || leb 6 n && leb n 10
@@ -29,25 +43,23 @@ pub record SameButPrice (s u : Bytes) : Type 0 where
   pub before : (i : ℕ) → i < 4 → getD s i 0 ≡ getD u i 0
   pub after : (i : ℕ) → 8 ≤ i → i < questionBytes → getD s i 0 ≡ getD u i 0
 
--- what holds of u's answer: it is not refused either, shows the same range, and is accepted exactly where its price is a ladder price from the
--- lowest shown to the highest shown, and never where 0 and 0 are shown
-pub record SameRange (t : Table) (percent : Percentage) (s u : Bytes) : Type 0 where
-  pub not-refused : T (notRefused (judged (ladder t) percent u .number))
-  pub lowest : judged (ladder t) percent u .lowest ≡ judged (ladder t) percent s .lowest
-  pub highest : judged (ladder t) percent u .highest ≡ judged (ladder t) percent s .highest
-  pub accepted :
-      eqb (judged (ladder t) percent u .number) 0 ≡
-      (isLadderPrice (priceOf u) t && leb (judged (ladder t) percent s .lowest) (priceOf u) &&
-      leb (priceOf u) (judged (ladder t) percent s .highest))
-  pub never :
-      judged (ladder t) percent s .lowest ≡ 0 → judged (ladder t) percent s .highest ≡ 0 → judged (ladder t) percent u .number ≡ 0 → ⊥
+-- what holds of an answer b to the price p, where a is the answer to the same question with another order price: it is not refused either,
+-- shows the same range, and is accepted exactly where p is a ladder price from the lowest shown to the highest shown, and never where 0 and
+-- 0 are shown
+pub record SameRange (t : Table) (a b : Answer) (p : ℕ) : Type 0 where
+  pub not-refused : T (notRefused (b .number))
+  pub lowest : b .lowest ≡ a .lowest
+  pub highest : b .highest ≡ a .highest
+  pub accepted : eqb (b .number) 0 ≡ (isLadderPrice p t && leb (a .lowest) p && leb p (a .highest))
+  pub never : a .lowest ≡ 0 → a .highest ≡ 0 → b .number ≡ 0 → ⊥
 
 -- Demand 3d: for every question not refused for codes, references or order type, whatever order price it is given with the other
 -- fields kept.
 abbrev pub AnyOrderPrice : Type 0
 AnyOrderPrice =
     (t : Table) → T (wellFormed t) → (percent : Percentage) (s u : Bytes) → length s ≡ questionBytes → length u ≡ questionBytes →
-    SameButPrice s u → T (notRefused (judged (ladder t) percent s .number)) → SameRange t percent s u
+    SameButPrice s u → T (notRefused (judged (ladder t) percent s .number)) →
+    SameRange t (judged (ladder t) percent s) (judged (ladder t) percent u) (priceOf u)
 
 -- 0 and 2 to 10; 1 to 5
 abbrev pub isQuestionNumber : ℕ → Bool
@@ -68,5 +80,6 @@ QuestionNumbers = (l : Prices) (percent : Percentage) (s : Bytes) → Numbers (j
 -- All of them.
 pub record JudgingLaws : Type 0 where
   pub shown-is-exactly : ShownIsExactly
+  pub range-or-none : RangeOrNone
   pub any-order-price : AnyOrderPrice
   pub question-numbers : QuestionNumbers

@@ -41,6 +41,7 @@ pub enum Verdict {
 }
 
 // An answer: its number, and the lowest and highest price shown.
+#[repr(C)]
 pub struct Answer {
     pub number: u32,
     pub lowest: u32,

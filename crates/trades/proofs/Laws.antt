@@ -2,7 +2,7 @@
 use mathlib.Core.Path.{_≡_, refl}
 use Prim.Native.Nat.{ℕ, _≤_}
 use native.Mathlib.Omega.{arith}
-use mathlib.Core.Bool.{Bool, true, false, not, cond, _&&_, _||_}
+use mathlib.Core.Bool.{Bool, true, false, not, cond, _&&_}
 use lib.Dec.{T, eqb, leb, leb→le}
 use borrow.Author.Tests.{le-ltb}
 use Rattle.ladder.specs.Bands.{Table, wellFormed}
@@ -94,13 +94,16 @@ module _ (t : Table) (wf : T (wellFormed t)) (percent : Percentage) (r : TradeRe
       let pairs = or-false (badPair (r .«lowest_bid») (r .«highest_bid»)) (badPair (r .«lowest_ask») (r .«highest_ask»)) disagrees in
       let first-below-last = over-first (ladder t) (rising t wf) (lastPrice (ladder t)) (listed t wf _ (ends .last-on)) in
       record {
-        lowest-on = low;
-        highest-on = high;
-        rises =
-            range-rises (firstPrice (ladder t)) (lastPrice (ladder t)) first-below-last (Low (ladder t) percent (r .«previous_close»)) (r .«lowest_bid»)
-            (r .«lowest_ask») (High (ladder t) percent (r .«previous_close»)) (r .«highest_bid») (r .«highest_ask»)
-            (limits-paired t wf percent _ close)
-            (paired _ _ (pairs .0)) (paired _ _ (pairs .1));
+        range =
+            record {
+              lowest-on = low;
+              highest-on = high;
+              rises =
+                  range-rises (firstPrice (ladder t)) (lastPrice (ladder t)) first-below-last (Low (ladder t) percent (r .«previous_close»)) (r .«lowest_bid»)
+                  (r .«lowest_ask») (High (ladder t) percent (r .«previous_close»)) (r .«highest_bid») (r .«highest_ask»)
+                  (limits-paired t wf percent _ close)
+                  (paired _ _ (pairs .0)) (paired _ _ (pairs .1));
+            };
         accepted = accepts t wf (tradeRange (ladder t) percent r) p low high;
       }
 

@@ -1,9 +1,9 @@
 -- References of a trade: on the ladder, in pairs of a low and a high, and the range that they make.
 use mathlib.Core.Path.{_≡_, refl}
-use Prim.Native.Nat.{ℕ, min, max, _≤_}
+use Prim.Native.Nat.{ℕ, _≤_}
 use native.Mathlib.Omega.{arith}
-use mathlib.Core.Bool.{Bool, true, false, not, cond, _||_}
-use lib.Dec.{T, ltb}
+use mathlib.Core.Bool.{Bool, true, false, not, _||_}
+use lib.Dec.{T}
 use borrow.Author.Tests.{ltb-false, not-false}
 use Rattle.ladder.specs.Bands.{Table, wellFormed}
 use Rattle.ladder.specs.Ladder.{ladder, isLadderPrice}
@@ -15,8 +15,8 @@ use Rattle.limits.specs.Limits.{low, high}
 use Rattle.limits.proofs.Laws.{of-smaller, of-larger, limits-enclose}
 use Rattle.questions.specs.declared.Reference.{Reference}
 use Rattle.questions.specs.declared.Reference.the-variants.{Missing, Price}
-use Rattle.questions.specs.Missing.{present, isBelow, least, greatest, priceOr}
-use Rattle.questions.specs.Checks.{differ, isOff, badPair}
+use Rattle.questions.specs.Missing.{least, greatest, priceOr}
+use Rattle.questions.specs.Checks.{isOff, badPair}
 use Rattle.ranges.specs.Bounds.{Low, High}
 
 true-is-false : {C : Type 0} → true ≡ false → C

@@ -1,13 +1,14 @@
 -- The laws of trades. Each is proved in proofs/Laws.antt: TradeNumbers as trade-numbers, and so on.
 use mathlib.Core.Path.{_≡_}
-use Prim.Native.Nat.{ℕ, _≤_}
+use Prim.Native.Nat.{ℕ}
 use mathlib.Core.Bool.{Bool, _&&_, _||_}
 use lib.Dec.{T, eqb, leb}
 use Rattle.ladder.specs.Bands.{Table, wellFormed}
-use Rattle.ladder.specs.Ladder.{Prices, ladder, isLadderPrice}
+use Rattle.ladder.specs.Ladder.{Prices, ladder}
 use Rattle.limits.specs.declared.Percentage.{Percentage}
 use Rattle.judging.specs.declared.Answer.{Answer}
 use Rattle.judging.specs.Answers.{noneShown}
+use Rattle.judging.specs.Laws.{LadderRange}
 use Rattle.trades.specs.declared.TradeReferences.{TradeReferences}
 use Rattle.trades.specs.Trades.{tradeJudged}
 
@@ -26,9 +27,7 @@ TradeNumbers = (l : Prices) (percent : Percentage) (p : ℕ) (r : TradeReference
 -- A trade that is not refused: the range shown goes from a ladder price to one that is not lower, and the trade is accepted exactly
 -- where its price, on the ladder or not, lies from the lowest shown to the highest shown.
 pub record FromTo (t : Table) (a : Answer) (p : ℕ) : Type 0 where
-  pub lowest-on : T (isLadderPrice (a .lowest) t)
-  pub highest-on : T (isLadderPrice (a .highest) t)
-  pub rises : a .lowest ≤ a .highest
+  pub range : LadderRange t a
   pub accepted : eqb (a .number) 0 ≡ (leb (a .lowest) p && leb p (a .highest))
 
 abbrev pub TradeRange : Type 0

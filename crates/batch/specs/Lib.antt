@@ -1,0 +1,4 @@
+-- What a batch means, to be read in this order.
+pub mod Record
+pub mod Batch
+pub mod Laws

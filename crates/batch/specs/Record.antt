@@ -1,0 +1,21 @@
+-- An answer as 12 bytes.
+use Prim.Native.Nat.{ℕ, _+_, _/_, _%_}
+use mathlib.Core.List.{[], _∷_, _++_}
+use Rattle.questions.specs.Record.{Bytes, number}
+use Rattle.judging.specs.declared.Answer.{Answer}
+
+-- how many bytes an answer has
+abbrev pub answerBytes : ℕ
+answerBytes = 12
+
+-- the 4 bytes of a number, little-endian
+abbrev pub fourBytes : ℕ → Bytes
+fourBytes x = x % 256 ∷ x / 256 % 256 ∷ x / 65536 % 256 ∷ x / 16777216 % 256 ∷ []
+
+-- "An answer is 12 bytes, three 4-byte little-endian numbers: answer number, lowest and highest permitted price."
+unfoldable pub encoded : Answer → Bytes
+encoded a = fourBytes (a .number) ++ (fourBytes (a .lowest) ++ fourBytes (a .highest))
+
+-- the answer that is read from a byte on
+abbrev pub answerAt : ℕ → Bytes → Answer
+answerAt at s = record { number = number at s; lowest = number (at + 4) s; highest = number (at + 8) s }
