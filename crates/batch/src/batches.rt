@@ -15,6 +15,9 @@ ghost use Rattle.questions.specs.Record.{questionBytes};
 ghost use Rattle.batch.specs.Record.{answerBytes};
 ghost use Rattle.batch.specs.Batch.{mostQuestions, refused, answered, outcomeOf, bufferAfter};
 
+// The answer number of a batch that is turned away.
+const TURNED_AWAY: u32 = 1;
+
 // Whether a batch is turned away: by its bytes, and those of the answer buffer.
 fn is_refused(asked: usize, room: usize) -> bool
     ensures { λ r. ⌜ r ≡ refused asked room ⌝ }
@@ -57,7 +60,7 @@ pub fn judge(table: &[u32], percentage: Percentage, questions: &[u8], answers: &
 {
     if is_refused(questions.len(), answers.len()) {
         return Outcome {
-            number: 1,
+            number: TURNED_AWAY,
             count: 0,
         };
     }

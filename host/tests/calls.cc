@@ -1,0 +1,32 @@
+// A C++ program that calls a function of each kind.
+#include "hendovita.h"
+
+int main()
+{
+    const uint32_t none = 0;
+    uint8_t question[HENDOVITA_QUESTION_BYTES];
+    uint8_t answer[HENDOVITA_ANSWER_BYTES];
+    hendovita_question asked = hendovita_question();
+    asked.side = HENDOVITA_BUY;
+    asked.order_type = HENDOVITA_LIMIT;
+    asked.queue = HENDOVITA_BOTH_QUEUES;
+    asked.price = 19890;
+    asked.current_bid = 19890;
+    asked.current_ask = 19900;
+    hendovita_put_question(question, &asked);
+
+    const hendovita_outcome batch = hendovita_judge_batch(
+        question, sizeof question, answer, sizeof answer);
+    const hendovita_answer one =
+        hendovita_judge_question(question, sizeof question);
+    const hendovita_answer trade =
+        hendovita_judge_trade(9503, 10000, 9600, 9800, 10300, 10600);
+    const bool right = batch.number == HENDOVITA_ACCEPTED && batch.count == 1
+        && hendovita_get_answer(answer).lowest == 18900
+        && one.lowest == 18900 && one.highest == 19900
+        && trade.number == HENDOVITA_ACCEPTED && trade.lowest == 9500
+        && hendovita_up(500, 24).price == 740
+        && hendovita_place_of(20050).found == none
+        && hendovita_lower_limit(20200).price == 19190;
+    return right ? 0 : 1;
+}

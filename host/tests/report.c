@@ -1,0 +1,118 @@
+/*
+ * The tests of a run: a line for each, and what differed where one fails.
+ */
+#include "report.h"
+
+#include <inttypes.h>
+#include <stdarg.h>
+#include <stdio.h>
+
+enum { PRINTED = 5 }; /* faults of a test that are printed */
+
+static const char *running;
+static uint64_t faults;
+static unsigned passed, failed;
+
+static void end(void)
+{
+    if (running == NULL)
+        return;
+    if (faults == 0) {
+        printf("ok\n");
+        passed++;
+    } else {
+        printf("FAILED %s: %" PRIu64 " faults\n", running, faults);
+        failed++;
+    }
+    running = NULL;
+}
+
+void report_begin(const char *name)
+{
+    end();
+    running = name;
+    faults = 0;
+    printf("%s ... ", name);
+    fflush(stdout);
+}
+
+bool report_fault(void)
+{
+    faults++;
+    if (faults == 1)
+        printf("\n");
+    return faults <= PRINTED;
+}
+
+void report_say(const char *format, ...)
+{
+    if (!report_fault())
+        return;
+    va_list arguments;
+    va_start(arguments, format);
+    vprintf(format, arguments);
+    va_end(arguments);
+    printf("\n");
+}
+
+void report_same(const char *what, uint64_t found, uint64_t due)
+{
+    if (found != due)
+        report_say("  %s: found %" PRIu64 ", due %" PRIu64, what, found, due);
+}
+
+static bool same(struct hendovita_answer found, struct plain_answer due)
+{
+    return found.number == due.number && found.lowest == due.lowest
+        && found.highest == due.highest;
+}
+
+static void print_answers(struct hendovita_answer found,
+                          struct plain_answer due)
+{
+    printf("  found %" PRIu32 " %" PRIu32 " %" PRIu32 "\n",
+           found.number, found.lowest, found.highest);
+    printf("  due   %" PRIu32 " %" PRIu32 " %" PRIu32 "\n",
+           due.number, due.lowest, due.highest);
+}
+
+void report_question(const uint8_t question[40], struct hendovita_answer found,
+                     struct plain_answer due)
+{
+    static const char *const names[9] = {
+        "price", "current bid", "current ask", "last bid", "last ask",
+        "previous close", "day low", "day high", "nominal",
+    };
+    if (same(found, due) || !report_fault())
+        return;
+    printf("  side %u, order type %u, queue %u, byte 3 %u", question[0],
+           question[1], question[2], question[3]);
+    for (int i = 0; i < 9; i++)
+        printf(", %s %" PRIu32, names[i],
+               hendovita_get_number(question + 4 + 4 * i));
+    printf("\n");
+    print_answers(found, due);
+}
+
+void report_trade(const uint32_t fields[6], struct hendovita_answer found,
+                  struct plain_answer due)
+{
+    static const char *const names[6] = {
+        "price", "previous close", "lowest bid", "lowest ask", "highest bid",
+        "highest ask",
+    };
+    if (same(found, due) || !report_fault())
+        return;
+    printf("  trade");
+    for (int i = 0; i < 6; i++)
+        printf(", %s %" PRIu32, names[i], fields[i]);
+    printf("\n");
+    print_answers(found, due);
+}
+
+int report_finish(void)
+{
+    end();
+    printf("%u passed, %u failed\n", passed, failed);
+    return failed == 0 ? 0 : 1;
+}

@@ -1,0 +1,35 @@
+/*
+ * The tests of a run: a line for each, and what differed where one fails.
+ */
+#ifndef REPORT_H
+#define REPORT_H
+
+#include <stdbool.h>
+#include <stdint.h>
+
+#include "hendovita.h"
+#include "plain.h"
+
+/* Begins a test. Its name is printed before it runs. */
+void report_begin(const char *name);
+
+/* Whether a fault is worth printing: the first few of a test are. Counts it. */
+bool report_fault(void);
+
+/* A fault with a line that says what is wrong, as printf would print it. */
+void report_say(const char *format, ...);
+
+/* A fault unless two numbers are the same. */
+void report_same(const char *what, uint64_t found, uint64_t due);
+
+/* Faults unless the answer is the one that is due: they print the question's
+ * or the trade's fields and both answers. */
+void report_question(const uint8_t question[40], struct hendovita_answer found,
+                     struct plain_answer due);
+void report_trade(const uint32_t fields[6], struct hendovita_answer found,
+                  struct plain_answer due);
+
+/* Ends the run: prints how many passed and failed. 0 if none failed. */
+int report_finish(void);
+
+#endif

@@ -1,0 +1,13 @@
+/*
+ * The host tests, by what they look at.
+ */
+#ifndef TESTS_H
+#define TESTS_H
+
+void test_interface(void); /* interface.c: the header's own functions */
+void test_ladder(void);    /* ladder.c: every price, place, step and limit */
+void test_judging(void);   /* judging.c: questions and trades */
+void test_batches(void);   /* batches.c: lengths, buffers, every byte */
+void test_memory(void);    /* memory.c: guard pages, alignment, no bytes */
+
+#endif
