@@ -21,9 +21,12 @@ BENCH = $(wildcard bench/*.c)
 all: $(LIBRARY)
 
 $(LIBRARY): $(RATTLE)
-	rt staticlib hendovita
+	rt staticlib batch
+	rt staticlib interface
 	mkdir -p build
-	cp target/staticlib/libhendovita.a $@
+	cd build && ar x ../target/staticlib/libbatch.a && ar x ../target/staticlib/libinterface.a
+	rm -f $@
+	ar rcs $@ build/batch.o build/interface.o
 
 build/host-tests: $(LIBRARY) $(HEADER) $(TESTS) $(PLAIN) $(PLAIN_HEADERS) $(wildcard host/tests/*.h)
 	$(CC) $(STRICT) $(CFLAGS) -Iinclude -Ihost/plain -Ihost/draw $(TESTS) $(PLAIN) $(LIBRARY) -o $@

@@ -71,10 +71,10 @@ pub fn answer_on(table: &[u32], range: Range, price: u32) -> Answer
     requires { ⌜ T (isTable (now table)) ⌝ }
     ensures { λ r. ⌜ r ≡ answerOn (pricesOf (now (table .entry))) range price ⌝ }
 {
-    let verdict = verdicts::verdict_on(table, range, price);
+    let number = verdict_number(verdicts::verdict_on(table, range, price));
     let shown = showing::shown_of(table, range);
     Answer {
-        number: verdict_number(verdict),
+        number,
         lowest: shown.lowest,
         highest: shown.highest,
     }

@@ -76,10 +76,11 @@ pub fn phase_1() -> [u32; 36]
     ensures { λ r. ⌜ bandsOf r ≡ phase1 ⌝ }
     ensures { λ r. ⌜ T (isTable r) ⌝ }
 {
+    let bands = PHASE_1;
     let mut numbers = [0u32; 36];
     let mut k = 0;
     while k < 12 {
-        let band = PHASE_1[k];
+        let band = bands[k];
         let at = 3 * k;
         numbers[at] = band.bottom;
         numbers[at + 1] = band.top;

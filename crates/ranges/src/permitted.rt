@@ -92,8 +92,7 @@ fn lowest_of(
 {
     let bottom = table::first_price(table);
     match rule {
-        Rule::BuyLimit => buy_lowest(table, percentage, queues, references),
-        Rule::BuyEnhanced => buy_lowest(table, percentage, queues, references),
+        Rule::BuyLimit | Rule::BuyEnhanced => buy_lowest(table, percentage, queues, references),
         Rule::BuySpecial => missing::price_or(rules::ask_of(queues), bottom),
         Rule::SellLimit => missing::price_or(rules::bid_of(queues), bottom),
         Rule::SellEnhanced => missing::price_or(
@@ -123,8 +122,7 @@ fn highest_of(
             top,
         ),
         Rule::BuySpecial => top,
-        Rule::SellLimit => sell_highest(table, percentage, queues, references),
-        Rule::SellEnhanced => sell_highest(table, percentage, queues, references),
+        Rule::SellLimit | Rule::SellEnhanced => sell_highest(table, percentage, queues, references),
         Rule::SellSpecial => missing::price_or(rules::bid_of(queues), top),
     }
 }

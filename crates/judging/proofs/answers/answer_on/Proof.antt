@@ -4,7 +4,7 @@ use Rattle.judging.proofs.answers.answer_on.Statement.{statement}
 use Rattle.judging.proofs.answers.answer_on.Tie as tie
 
 returns : tie.Need-returns
-returns c = rw (c .verdict-number .ensures, c .before .before .verdict-on .ensures, c .before .shown-of .ensures)
+returns c = rw (c .before .verdict-number .ensures, c .before .before .verdict-on .ensures, c .shown-of .ensures)
 
 pub answer-on-spec : {M : Type 1} → statement M
 answer-on-spec = tie.close (tie.spec (λ c κs. search needs) (λ c κs. search needs) (λ c κs. search needs) returns)

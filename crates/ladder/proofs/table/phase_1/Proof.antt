@@ -14,52 +14,13 @@ use Rattle.ladder.proofs.table.phase_1.Tie as tie
 
 -- the table is laid out up to band k
 abbrev Inv-loop : tie.InvT-loop
-Inv-loop numbers₀ k₀ numbers k = (k ≤ 12) × (length numbers ≡ 36) × (take k (bandsOf numbers) ≡ take k phase1)
+Inv-loop bands numbers₀ k₀ numbers k = (k ≤ 12) × (length numbers ≡ 36) × (take k (bandsOf numbers) ≡ take k phase1)
 
 abbrev μ-loop : tie.MeasureT-loop
-μ-loop numbers₀ k₀ numbers k = 12 - k
+μ-loop bands numbers₀ k₀ numbers k = 12 - k
 
 loop-holds : tie.Need-loop-holds Inv-loop μ-loop
 loop-holds c = (omega arith, refl, refl)
-
-mul-band : tie.Need-mul-band Inv-loop μ-loop
-mul-band c = search needs
-
-array-copy-out-band : tie.Need-array-copy-out-band Inv-loop μ-loop
-array-copy-out-band c = search needs
-
-mul-at : tie.Need-mul-at Inv-loop μ-loop
-mul-at c = search needs
-
-mul-numbers : tie.Need-mul-numbers Inv-loop μ-loop
-mul-numbers c = search needs
-
-array-write-numbers : tie.Need-array-write-numbers Inv-loop μ-loop
-array-write-numbers c = search needs
-
-add-numbers : tie.Need-add-numbers Inv-loop μ-loop
-add-numbers c = search needs
-
-mul-numbers-2 : tie.Need-mul-numbers-2 Inv-loop μ-loop
-mul-numbers-2 c = search needs
-
-array-write-numbers-2 : tie.Need-array-write-numbers-2 Inv-loop μ-loop
-array-write-numbers-2 c = search needs
-
-add-numbers-2 : tie.Need-add-numbers-2 Inv-loop μ-loop
-add-numbers-2 c = search needs
-
-mul-numbers-3 : tie.Need-mul-numbers-3 Inv-loop μ-loop
-mul-numbers-3 c = search needs
-
-array-write-numbers-3 : tie.Need-array-write-numbers-3 Inv-loop μ-loop
-array-write-numbers-3 c = search needs
-
-add-k : tie.Need-add-k Inv-loop μ-loop
-add-k c = search needs
-
-loop-less : tie.Need-loop-less Inv-loop μ-loop
-loop-less c = search needs
 
 loop-again : tie.Need-loop-again Inv-loop μ-loop
 unfolding phase1
@@ -83,5 +44,4 @@ returns c =
 pub phase-1-spec : {M : Type 1} → statement M
 phase-1-spec =
     tie.close
-    (tie.spec Inv-loop μ-loop loop-holds mul-band array-copy-out-band mul-at mul-numbers array-write-numbers add-numbers
-    mul-numbers-2 array-write-numbers-2 add-numbers-2 mul-numbers-3 array-write-numbers-3 add-k loop-less loop-again returns)
+    (tie.spec Inv-loop μ-loop loop-holds (λ c. search needs) (λ c. search needs) (λ c. search needs) (λ c. search needs) (λ c. search needs) (λ c. search needs) (λ c. search needs) (λ c. search needs) (λ c. search needs) (λ c. search needs) (λ c. search needs) (λ c. search needs) (λ c. search needs) loop-again returns)

@@ -1,0 +1,102 @@
+/*
+ * Speed: the library's batch against a plain C judge written for speed, on the
+ * same questions, turn by turn in one run. Of each the best round counts.
+ */
+#define _POSIX_C_SOURCE 199309L
+#include <stdio.h>
+#include <stdlib.h>
+#include <string.h>
+#include <time.h>
+
+#include "hendovita.h"
+#include "mixes.h"
+#include "plain.h"
+#include "quick.h"
+
+enum { QUESTIONS = 100000, ROUNDS = 15 };
+
+static uint8_t questions[QUESTIONS * 40];
+static uint8_t answers[2][QUESTIONS * 12];
+
+static double now(void)
+{
+    struct timespec t;
+    clock_gettime(CLOCK_MONOTONIC, &t);
+    return (double)t.tv_sec + (double)t.tv_nsec / 1e9;
+}
+
+/* Seconds for all questions in batches of n, by the library. */
+static double time_library(size_t n)
+{
+    double begin = now();
+    for (size_t k = 0; k < QUESTIONS; k += n)
+        hendovita_judge_batch(questions + 40 * k, 40 * n, answers[0] + 12 * k,
+                              12 * n);
+    return now() - begin;
+}
+
+/* The same by the plain C judge. */
+static double time_plain_c(size_t n)
+{
+    double begin = now();
+    for (size_t k = 0; k < QUESTIONS; k += n)
+        quick_judge_batch(questions + 40 * k, 40 * n, answers[1] + 12 * k,
+                          12 * n);
+    return now() - begin;
+}
+
+struct best {
+    double library, plain_c;
+};
+
+static struct best best_of(size_t n)
+{
+    struct best best = {1e9, 1e9};
+    for (int round = 0; round < ROUNDS; round++) {
+        double library = time_library(n), plain_c = time_plain_c(n);
+        if (library < best.library)
+            best.library = library;
+        if (plain_c < best.plain_c)
+            best.plain_c = plain_c;
+    }
+    return best;
+}
+
+/* Both must give the same answers, or their times mean nothing. */
+static void compare(void)
+{
+    time_library(1000);
+    time_plain_c(1000);
+    if (memcmp(answers[0], answers[1], sizeof answers[0]) != 0) {
+        printf("the two judges differ\n");
+        exit(1);
+    }
+}
+
+static void run(const char *name,
+                void (*mix)(struct draw *, uint8_t question[40]))
+{
+    static const size_t sizes[] = {1, 10, 100, 1000};
+    struct draw draw;
+    draw_begin(&draw, 5);
+    for (size_t k = 0; k < QUESTIONS; k++)
+        mix(&draw, questions + 40 * k);
+    compare();
+    printf("%s\n  questions     library      plain C   ratio\n"
+           "    a batch    M/s    ns    M/s    ns\n", name);
+    for (size_t i = 0; i < sizeof sizes / sizeof *sizes; i++) {
+        struct best best = best_of(sizes[i]);
+        printf("%11zu %6.1f %5.0f %6.1f %5.0f   %5.2f\n", sizes[i],
+               QUESTIONS / best.library / 1e6, best.library / QUESTIONS * 1e9,
+               QUESTIONS / best.plain_c / 1e6, best.plain_c / QUESTIONS * 1e9,
+               best.library / best.plain_c);
+    }
+}
+
+int main(void)
+{
+    plain_begin();
+    run("usual orders over 0.50 to 50", mix_usual);
+    run("random over the whole ladder, a fifth damaged", mix_random);
+    return 0;
+}

@@ -1,0 +1,12 @@
+-- As the call below says.
+use borrow.Author.Needs.{needs}
+use mathlib.Core.Path.{_∙_, ap}
+use Rattle.interface.specs.Results.{priceFound}
+use Rattle.interface.proofs.hendovita_five_percent_lower.Statement.{statement}
+use Rattle.interface.proofs.hendovita_five_percent_lower.Tie as tie
+
+returns : tie.Need-returns
+returns c = c .price-found .ensures ∙ ap priceFound (c .before .five-percent-lower .ensures)
+
+pub hendovita-five-percent-lower-spec : {M : Type 1} → statement M
+hendovita-five-percent-lower-spec = tie.close (tie.spec (λ c κs. search needs) (λ c κs. search needs) returns)

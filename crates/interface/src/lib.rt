@@ -1,0 +1,122 @@
+// The C interface beside the batch: the other functions that include/hendovita.h declares. Each hands on to the call of a crate below
+// that has its name, and none has a precondition.
+mod results; // results.rt: a price or a place, or none, as two numbers
+
+use judging::Answer;
+ghost use mathlib.Core.Path.{_≡_};
+ghost use Rattle.ladder.specs.Bands.{phase1};
+ghost use Rattle.ladder.specs.Ladder.{ladder};
+ghost use Rattle.ladder.specs.Places.{priceAt, placeOf};
+ghost use Rattle.ladder.specs.Spreads.{spreadsUp, spreadsDown};
+ghost use Rattle.limits.specs.Limits.{fivePercent, fivePercentLower, fivePercentUpper, lowerLimit, upperLimit};
+ghost use Rattle.judging.specs.Answers.{judged};
+ghost use Rattle.trades.specs.Trades.{tradeReferencesOf, tradeJudged};
+ghost use Rattle.interface.specs.Results.{priceFound, placeFound};
+
+// A price: `found` is 1, or 0 where there is none, and the price is then 0.
+#[repr(C)]
+pub struct PriceFound {
+    pub found: u32,
+    pub price: u32,
+}
+
+// A place: `found` is 1, or 0 where there is none, and the place is then 0, which is a proper place where `found` is 1.
+#[repr(C)]
+pub struct PlaceFound {
+    pub found: u32,
+    pub place: u32,
+}
+
+// The answer to one question of 40 bytes; to any other number of bytes 1, with 0 and 0.
+#[no_mangle]
+pub extern "C" fn hendovita_judge_question(question: &[u8]) -> Answer
+    ensures { λ r. ⌜ r ≡ judged (ladder phase1) fivePercent (now (question .entry)) ⌝ }
+{
+    judging::judge(question)
+}
+
+// The answer to an off-System trade. After the trade price, 0 means missing.
+#[no_mangle]
+pub extern "C" fn hendovita_judge_trade(
+    price: u32,
+    previous_close: u32,
+    lowest_bid: u32,
+    lowest_ask: u32,
+    highest_bid: u32,
+    highest_ask: u32,
+) -> Answer
+    ensures { λ r. ⌜ r ≡ tradeJudged (ladder phase1) fivePercent price (tradeReferencesOf «previous_close» «lowest_bid» «lowest_ask» «highest_bid» «highest_ask») ⌝ }
+{
+    trades::judge_trade(
+        price,
+        previous_close,
+        lowest_bid,
+        lowest_ask,
+        highest_bid,
+        highest_ask,
+    )
+}
+
+// The price n spreads up; none from a price off the ladder.
+#[no_mangle]
+pub extern "C" fn hendovita_up(price: u32, n: u64) -> PriceFound
+    ensures { λ r. ⌜ r ≡ priceFound (spreadsUp (ladder phase1) price n) ⌝ }
+{
+    results::price_found(ladder::up(price, n))
+}
+
+// The price n spreads down; none from a price off the ladder.
+#[no_mangle]
+pub extern "C" fn hendovita_down(price: u32, n: u64) -> PriceFound
+    ensures { λ r. ⌜ r ≡ priceFound (spreadsDown (ladder phase1) price n) ⌝ }
+{
+    results::price_found(ladder::down(price, n))
+}
+
+// The price at a place; none above the last place.
+#[no_mangle]
+pub extern "C" fn hendovita_price_at(place: u32) -> PriceFound
+    ensures { λ r. ⌜ r ≡ priceFound (priceAt place (ladder phase1)) ⌝ }
+{
+    results::price_found(ladder::price_at(place))
+}
+
+// The place of a price; none off the ladder.
+#[no_mangle]
+pub extern "C" fn hendovita_place_of(price: u32) -> PlaceFound
+    ensures { λ r. ⌜ r ≡ placeFound (placeOf price (ladder phase1)) ⌝ }
+{
+    results::place_found(ladder::place_of(price))
+}
+
+// The lower limit of a reference; none off the ladder.
+#[no_mangle]
+pub extern "C" fn hendovita_lower_limit(reference: u32) -> PriceFound
+    ensures { λ r. ⌜ r ≡ priceFound (lowerLimit (ladder phase1) reference) ⌝ }
+{
+    results::price_found(limits::lower_limit(reference))
+}
+
+// The upper limit of a reference; none off the ladder.
+#[no_mangle]
+pub extern "C" fn hendovita_upper_limit(reference: u32) -> PriceFound
+    ensures { λ r. ⌜ r ≡ priceFound (upperLimit (ladder phase1) reference) ⌝ }
+{
+    results::price_found(limits::upper_limit(reference))
+}
+
+// The lower 5 percent limit of a reference, before 24 spreads are looked at; none off the ladder.
+#[no_mangle]
+pub extern "C" fn hendovita_five_percent_lower(reference: u32) -> PriceFound
+    ensures { λ r. ⌜ r ≡ priceFound (fivePercentLower (ladder phase1) reference) ⌝ }
+{
+    results::price_found(limits::five_percent_lower(reference))
+}
+
+// The upper 5 percent limit of a reference, before 24 spreads are looked at; none off the ladder.
+#[no_mangle]
+pub extern "C" fn hendovita_five_percent_upper(reference: u32) -> PriceFound
+    ensures { λ r. ⌜ r ≡ priceFound (fivePercentUpper (ladder phase1) reference) ⌝ }
+{
+    results::price_found(limits::five_percent_upper(reference))
+}

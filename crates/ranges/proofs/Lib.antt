@@ -1,0 +1,2 @@
+-- Pairs: a rule that is one of two.
+mod Pairs
