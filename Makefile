@@ -20,12 +20,13 @@ BENCH = $(wildcard bench/*.c)
 
 all: $(LIBRARY)
 
-$(LIBRARY): $(RATTLE)
+# The batch and the other calls are an object each.
+$(LIBRARY): $(RATTLE) Makefile
 	rt staticlib batch
 	rt staticlib interface
 	mkdir -p build
+	rm -f build/*.o $@
 	cd build && ar x ../target/staticlib/libbatch.a && ar x ../target/staticlib/libinterface.a
-	rm -f $@
 	ar rcs $@ build/batch.o build/interface.o
 
 build/host-tests: $(LIBRARY) $(HEADER) $(TESTS) $(PLAIN) $(PLAIN_HEADERS) $(wildcard host/tests/*.h)
@@ -37,7 +38,7 @@ build/gateway: $(LIBRARY) $(HEADER) examples/gateway.c
 build/bench: $(LIBRARY) $(HEADER) $(BENCH) $(wildcard bench/*.h) $(PLAIN) $(PLAIN_HEADERS)
 	$(CC) $(STRICT) -O3 -Iinclude -Ihost/plain -Ihost/draw $(BENCH) $(PLAIN) $(LIBRARY) -o $@
 
-check: build/host-tests build/gateway
+check: build/host-tests build/gateway build/bench
 	host/run
 
 demo: build/gateway
@@ -47,12 +48,14 @@ bench: build/bench
 	build/bench
 
 install: $(LIBRARY)
-	mkdir -p $(DESTDIR)$(PREFIX)/include $(DESTDIR)$(PREFIX)/lib/pkgconfig
-	cp $(HEADER) $(DESTDIR)$(PREFIX)/include/
-	cp $(LIBRARY) $(DESTDIR)$(PREFIX)/lib/
-	sed 's|@PREFIX@|$(PREFIX)|; s|@VERSION@|$(VERSION)|' include/hendovita.pc.in > $(DESTDIR)$(PREFIX)/lib/pkgconfig/hendovita.pc
+	mkdir -p "$(DESTDIR)$(PREFIX)/include" "$(DESTDIR)$(PREFIX)/lib/pkgconfig"
+	install -m 644 $(HEADER) "$(DESTDIR)$(PREFIX)/include/hendovita.h"
+	install -m 644 $(LIBRARY) "$(DESTDIR)$(PREFIX)/lib/libhendovita.a"
+	sed 's|@PREFIX@|$(PREFIX)|; s|@VERSION@|$(VERSION)|' include/hendovita.pc.in > build/hendovita.pc
+	install -m 644 build/hendovita.pc "$(DESTDIR)$(PREFIX)/lib/pkgconfig/hendovita.pc"
 
 clean:
 	rm -rf build
 
+.DELETE_ON_ERROR:
 .PHONY: all check demo bench install clean

@@ -36,7 +36,7 @@ static double time_library(size_t n)
 }
 
 /* The same by the plain C judge. */
-static double time_plain_c(size_t n)
+static double time_quick(size_t n)
 {
     double begin = now();
     for (size_t k = 0; k < QUESTIONS; k += n)
@@ -46,18 +46,18 @@ static double time_plain_c(size_t n)
 }
 
 struct best {
-    double library, plain_c;
+    double library, quick;
 };
 
 static struct best best_of(size_t n)
 {
     struct best best = {1e9, 1e9};
     for (int round = 0; round < ROUNDS; round++) {
-        double library = time_library(n), plain_c = time_plain_c(n);
+        double library = time_library(n), quick = time_quick(n);
         if (library < best.library)
             best.library = library;
-        if (plain_c < best.plain_c)
-            best.plain_c = plain_c;
+        if (quick < best.quick)
+            best.quick = quick;
     }
     return best;
 }
@@ -66,7 +66,7 @@ static struct best best_of(size_t n)
 static void compare(void)
 {
     time_library(1000);
-    time_plain_c(1000);
+    time_quick(1000);
     if (memcmp(answers[0], answers[1], sizeof answers[0]) != 0) {
         printf("the two judges differ\n");
         exit(1);
@@ -82,14 +82,15 @@ static void run(const char *name,
     for (size_t k = 0; k < QUESTIONS; k++)
         mix(&draw, questions + 40 * k);
     compare();
-    printf("%s\n  questions     library      plain C   ratio\n"
+    printf("%s: million questions a second, ns a question\n"
+           "  questions     library      plain C   ratio\n"
            "    a batch    M/s    ns    M/s    ns\n", name);
     for (size_t i = 0; i < sizeof sizes / sizeof *sizes; i++) {
         struct best best = best_of(sizes[i]);
         printf("%11zu %6.1f %5.0f %6.1f %5.0f   %5.2f\n", sizes[i],
                QUESTIONS / best.library / 1e6, best.library / QUESTIONS * 1e9,
-               QUESTIONS / best.plain_c / 1e6, best.plain_c / QUESTIONS * 1e9,
-               best.library / best.plain_c);
+               QUESTIONS / best.quick / 1e6, best.quick / QUESTIONS * 1e9,
+               best.library / best.quick);
     }
 }
 

@@ -13,7 +13,7 @@
  * An order as they mostly come in: a price over 0.50 to 50 with bid and ask a
  * few spreads apart, close, day low and high, last quotes and nominal within
  * some percent of them, the order price near the quotes. Most have both
- * queues, most are limit orders, most are accepted.
+ * queues, most are limit orders, nearly all are accepted.
  */
 void mix_usual(struct draw *draw, uint8_t question[40]);
 

@@ -1,10 +1,11 @@
 /*
  * Hendovita: price checks for the Hong Kong continuous trading session.
  *
- * Link with libhendovita.a; nothing else is needed. Every function below
- * is proved to give the answer that its comment says, for every argument:
- * none traps, none loops, none keeps state, none allocates. They may be
- * called from several threads at once.
+ * Link with libhendovita.a; nothing else is needed. Every function of the
+ * archive is proved to give the answer that its comment says, for every
+ * argument: it never traps, always returns, keeps no state and allocates
+ * nothing. The `static inline` functions here are plain C, tested but not
+ * proved. All may be called from several threads at once.
  *
  * A price is a whole number of mils (0.001 of the currency unit). The spread
  * table is that of Phase 1, the percentage is 5.
@@ -112,9 +113,19 @@ static inline const char *hendovita_text(uint32_t number)
 /* ---- questions ------------------------------------------------------ */
 
 /*
- * An answer. 1 to 5 show 0 and 0. 0 and 6 to 10 show the lowest and the
- * highest ladder price that are permitted and pass the nine-fold rule, or 0
- * and 0 where there is none.
+ * A question is 40 bytes: the side, the order type, the queue code and 0, a
+ * byte each; then nine numbers of 4 bytes, the lowest first: order price,
+ * current bid, current ask, last bid, last ask, previous close, day low, day
+ * high, nominal price. A missing reference is 0.
+ *
+ * An answer is 12 bytes, three such numbers: answer number, lowest, highest.
+ */
+
+/*
+ * An answer. 1 to 5 show 0 and 0. 0 and 6 to 10 show a range: to a question,
+ * the lowest and the highest ladder price that are permitted and pass the
+ * nine-fold rule, or 0 and 0 where there is none; to a trade, the permitted
+ * range.
  */
 struct hendovita_answer {
     uint32_t number, lowest, highest;

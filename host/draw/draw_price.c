@@ -84,8 +84,9 @@ uint32_t draw_reference(struct draw *draw, struct draw_span span)
     return draw_between(draw, span.low, span.high);
 }
 
-/* Halves the part of the list that can hold the price until one is left. */
-uint32_t draw_ladder_below(uint32_t price)
+/* The largest ladder price that is not above a price, or the first: halves the
+ * part of the list that can hold it until one is left. */
+static uint32_t ladder_below(uint32_t price)
 {
     uint32_t low = 0, high = plain_count() - 1;
     while (low < high) {
@@ -100,7 +101,7 @@ uint32_t draw_ladder_below(uint32_t price)
 
 uint32_t draw_beside(struct draw *draw, uint32_t price)
 {
-    uint32_t ladder = draw_ladder_below(price);
+    uint32_t ladder = ladder_below(price);
     switch (draw_below(draw, 3)) {
     case 0:
         return plain_down(ladder, 1);

@@ -23,9 +23,6 @@ struct draw_span draw_span(struct draw *draw);
 /* A ladder price of the span; now and then any other ladder price. */
 uint32_t draw_reference(struct draw *draw, struct draw_span span);
 
-/* The largest ladder price that is not above a price, or the first. */
-uint32_t draw_ladder_below(uint32_t price);
-
 /* The ladder price at or below a price, or one spread to either side of it. */
 uint32_t draw_beside(struct draw *draw, uint32_t price);
 

@@ -3,7 +3,6 @@
 
 int main()
 {
-    const uint32_t none = 0;
     uint8_t question[HENDOVITA_QUESTION_BYTES];
     uint8_t answer[HENDOVITA_ANSWER_BYTES];
     hendovita_question asked = hendovita_question();
@@ -26,7 +25,7 @@ int main()
         && one.lowest == 18900 && one.highest == 19900
         && trade.number == HENDOVITA_ACCEPTED && trade.lowest == 9500
         && hendovita_up(500, 24).price == 740
-        && hendovita_place_of(20050).found == none
+        && !hendovita_place_of(20050).found
         && hendovita_lower_limit(20200).price == 19190;
     return right ? 0 : 1;
 }

@@ -1,20 +1,64 @@
 /*
- * The header's own functions: texts, and questions and answers as bytes.
+ * The header by itself: constants, texts, questions and answers as bytes.
  */
 #include <string.h>
 
 #include "report.h"
 #include "tests.h"
 
-static void test_texts(void)
+/* Each number of the answer list: its constant and its text. */
+static const struct {
+    uint32_t number, constant;
+    const char *text;
+} numbers[] = {
+    {0, HENDOVITA_ACCEPTED, "accepted"},
+    {1, HENDOVITA_BAD_LENGTH,
+     "question bytes or answer buffer of a wrong length"},
+    {2, HENDOVITA_UNKNOWN_CODE,
+     "side, order type or queue code unknown, or byte 3 not zero"},
+    {3, HENDOVITA_REFERENCE_OFF_LADDER,
+     "a reference is present but no ladder price"},
+    {4, HENDOVITA_REFERENCES_DISAGREE,
+     "references disagree with the queue code or with each other"},
+    {5, HENDOVITA_NO_OPPOSITE_QUEUE,
+     "special limit order with no opposite queue"},
+    {6, HENDOVITA_OUTSIDE_LADDER, "price under 0.010 or over 9,995.000"},
+    {7, HENDOVITA_BETWEEN_PRICES, "price between two ladder prices"},
+    {8, HENDOVITA_BELOW_LOWEST, "price below the permitted lowest"},
+    {9, HENDOVITA_ABOVE_HIGHEST, "price above the permitted highest"},
+    {10, HENDOVITA_NINE_FOLD,
+     "price nine times its reference or more, or a ninth or less"},
+    {11, 11, "no answer number"},
+    {UINT32_MAX, UINT32_MAX, "no answer number"},
+};
+
+static void test_numbers(void)
 {
-    report_begin("each number has a text of its own");
-    for (uint32_t a = 0; a <= 11; a++)
-        for (uint32_t b = 0; b < a; b++)
-            if (strcmp(hendovita_text(a), hendovita_text(b)) == 0)
-                report_say("  %u and %u: %s", a, b, hendovita_text(a));
-    report_same("text of 11 and 12",
-                strcmp(hendovita_text(11), hendovita_text(12)) == 0, 1);
+    report_begin("each answer number has its constant and its text");
+    for (size_t i = 0; i < sizeof numbers / sizeof *numbers; i++) {
+        const char *text = hendovita_text(numbers[i].number);
+        report_same("constant", numbers[i].constant, numbers[i].number);
+        if (strcmp(text, numbers[i].text) != 0)
+            report_say("  %u: %s", numbers[i].number, text);
+    }
+}
+
+static void test_codes(void)
+{
+    report_begin("codes and sizes are those of the record");
+    report_same("buy", HENDOVITA_BUY, 1);
+    report_same("sell", HENDOVITA_SELL, 2);
+    report_same("limit", HENDOVITA_LIMIT, 1);
+    report_same("enhanced limit", HENDOVITA_ENHANCED_LIMIT, 2);
+    report_same("special limit", HENDOVITA_SPECIAL_LIMIT, 3);
+    report_same("opening", HENDOVITA_OPENING, 1);
+    report_same("both queues", HENDOVITA_BOTH_QUEUES, 2);
+    report_same("buy queue only", HENDOVITA_BUY_QUEUE_ONLY, 3);
+    report_same("sell queue only", HENDOVITA_SELL_QUEUE_ONLY, 4);
+    report_same("neither queue", HENDOVITA_NEITHER_QUEUE, 5);
+    report_same("question bytes", HENDOVITA_QUESTION_BYTES, 40);
+    report_same("answer bytes", HENDOVITA_ANSWER_BYTES, 12);
+    report_same("most questions", HENDOVITA_MOST_QUESTIONS, 1000);
 }
 
 static void test_question_bytes(void)
@@ -47,7 +91,8 @@ static void test_answer_bytes(void)
 
 void test_interface(void)
 {
-    test_texts();
+    test_numbers();
+    test_codes();
     test_question_bytes();
     test_answer_bytes();
 }

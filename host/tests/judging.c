@@ -11,7 +11,7 @@ enum { BATCH = 1000, BATCHES = 2000, TRADES = 500000 };
 
 static void same_answer(const uint8_t question[40])
 {
-    report_question(question, hendovita_judge_question(question, 40),
+    report_question("alone", question, hendovita_judge_question(question, 40),
                     plain_question(question));
 }
 
@@ -51,28 +51,49 @@ static void test_every_code(void)
         }
 }
 
+/* The draw is to reach each of these numbers often. */
+static void often(const uint32_t counts[11], const uint32_t *numbers,
+                  size_t many, uint32_t least)
+{
+    for (size_t i = 0; i < many; i++)
+        if (counts[numbers[i]] < least)
+            report_say("  only %u answered %u", counts[numbers[i]],
+                       numbers[i]);
+}
+
+/* A batch as the library judges it, question by question. */
+static void same_batch(const uint8_t *questions, uint32_t counts[11])
+{
+    static uint8_t answers[BATCH * 12];
+    struct hendovita_outcome outcome = hendovita_judge_batch(
+        questions, BATCH * 40, answers, sizeof answers);
+    report_same("number", outcome.number, 0);
+    report_same("count", outcome.count, BATCH);
+    for (uint32_t k = 0; k < BATCH; k++) {
+        const uint8_t *question = questions + 40 * k;
+        struct plain_answer due = plain_question(question);
+        counts[due.number]++;
+        report_question("in a batch", question,
+                        hendovita_get_answer(answers + 12 * k), due);
+        report_question("alone", question,
+                        hendovita_judge_question(question, 40), due);
+    }
+}
+
 static void test_drawn_questions(void)
 {
-    static uint8_t questions[BATCH * 40], answers[BATCH * 12];
+    static const uint32_t numbers[] = {0, 2, 3, 4, 5, 6, 7, 8, 9, 10};
+    static uint8_t questions[BATCH * 40];
+    uint32_t counts[11] = {0};
     struct draw draw;
-    report_begin("2,000,000 drawn questions, in batches and one by one");
+    report_begin("2,000,000 drawn questions, in batches and alone");
     draw_begin(&draw, 1);
     for (uint32_t b = 0; b < BATCHES; b++) {
         for (uint32_t k = 0; k < BATCH; k++)
             draw_question(&draw, questions + 40 * k);
-        struct hendovita_outcome outcome = hendovita_judge_batch(
-            questions, sizeof questions, answers, sizeof answers);
-        report_same("number", outcome.number, 0);
-        report_same("count", outcome.count, BATCH);
-        for (uint32_t k = 0; k < BATCH; k++) {
-            struct plain_answer due = plain_question(questions + 40 * k);
-            report_question(questions + 40 * k,
-                            hendovita_get_answer(answers + 12 * k), due);
-            report_question(questions + 40 * k,
-                            hendovita_judge_question(questions + 40 * k, 40),
-                            due);
-        }
+        same_batch(questions, counts);
     }
+    often(counts, numbers, sizeof numbers / sizeof *numbers, 50000);
 }
 
 static void test_other_lengths(void)
@@ -92,16 +113,22 @@ static void test_other_lengths(void)
 
 static void test_drawn_trades(void)
 {
+    static const uint32_t numbers[] = {0, 3, 4, 6, 8, 9};
+    uint32_t counts[11] = {0};
     struct draw draw;
     report_begin("500,000 drawn trades");
     draw_begin(&draw, 2);
     for (uint32_t i = 0; i < TRADES; i++) {
         uint32_t f[6];
         draw_trade(&draw, f);
+        struct plain_answer due =
+            plain_trade(f[0], f[1], f[2], f[3], f[4], f[5]);
+        counts[due.number]++;
         report_trade(f,
                      hendovita_judge_trade(f[0], f[1], f[2], f[3], f[4], f[5]),
-                     plain_trade(f[0], f[1], f[2], f[3], f[4], f[5]));
+                     due);
     }
+    often(counts, numbers, sizeof numbers / sizeof *numbers, 20000);
 }
 
 void test_judging(void)

@@ -1,6 +1,8 @@
 /*
  * Every ladder price: place, price, steps and limits, against the list.
  */
+#include <inttypes.h>
+
 #include "report.h"
 #include "tests.h"
 
@@ -40,11 +42,19 @@ static void test_places(void)
         same_place(price);
 }
 
+static void same_step(const char *way, uint32_t price, uint64_t n,
+                      struct hendovita_price found, uint32_t due)
+{
+    if (found.price != due || found.found != (due != 0))
+        report_say("  %" PRIu64 " spreads %s from %u: found %u %u, due %u", n,
+                   way, price, found.found, found.price, due);
+}
+
 static void same_steps(uint32_t price, uint64_t n)
 {
-    same_price("up from", price, hendovita_up(price, n), plain_up(price, n));
-    same_price("down from", price, hendovita_down(price, n),
-               plain_down(price, n));
+    same_step("up", price, n, hendovita_up(price, n), plain_up(price, n));
+    same_step("down", price, n, hendovita_down(price, n),
+              plain_down(price, n));
 }
 
 static void test_steps(void)

@@ -6,35 +6,50 @@
 #include <stdlib.h>
 #include <string.h>
 #include <sys/mman.h>
+#include <unistd.h>
 
 #include "draw.h"
 #include "report.h"
 #include "tests.h"
 
-enum { PAGE = 4096, PAGES = 12, BYTES = PAGE * PAGES };
+enum { BYTES = 1 << 16 }; /* a multiple of the size of a page */
 
 /* BYTES bytes between two pages that fault when touched. */
 static uint8_t *guarded(void)
 {
-    uint8_t *all = mmap(NULL, BYTES + 2 * PAGE, PROT_READ | PROT_WRITE,
+    size_t page = (size_t)sysconf(_SC_PAGESIZE);
+    uint8_t *all = mmap(NULL, BYTES + 2 * page, PROT_READ | PROT_WRITE,
                         MAP_PRIVATE | MAP_ANONYMOUS, -1, 0);
-    if (all == MAP_FAILED || mprotect(all, PAGE, PROT_NONE) != 0
-        || mprotect(all + PAGE + BYTES, PAGE, PROT_NONE) != 0)
+    if (all == MAP_FAILED || mprotect(all, page, PROT_NONE) != 0
+        || mprotect(all + page + BYTES, page, PROT_NONE) != 0)
         abort();
-    return all + PAGE;
+    return all + page;
 }
 
 /* Judges n questions that stand there, into a buffer of just their size. */
 static void judge(const uint8_t *questions, size_t n, uint8_t *answers)
 {
+    memset(answers, 0xa5, 12 * n);
     struct hendovita_outcome outcome =
         hendovita_judge_batch(questions, 40 * n, answers, 12 * n);
     report_same("number", outcome.number, 0);
     report_same("count", outcome.count, n);
     for (size_t k = 0; k < n; k++)
-        report_question(questions + 40 * k,
+        report_question("in a batch", questions + 40 * k,
                         hendovita_get_answer(answers + 12 * k),
                         plain_question(questions + 40 * k));
+}
+
+/* The same into a buffer that is one byte short: no byte is changed. */
+static void refuse(const uint8_t *questions, size_t n, uint8_t *answers)
+{
+    memset(answers, 0xa5, 12 * n - 1);
+    struct hendovita_outcome outcome =
+        hendovita_judge_batch(questions, 40 * n, answers, 12 * n - 1);
+    report_same("number", outcome.number, 1);
+    report_same("count", outcome.count, 0);
+    for (size_t i = 0; i < 12 * n - 1; i++)
+        report_same("byte", answers[i], 0xa5);
 }
 
 static void test_guard_pages(uint8_t *questions, uint8_t *answers,
@@ -47,12 +62,12 @@ static void test_guard_pages(uint8_t *questions, uint8_t *answers,
         uint8_t *last = questions + BYTES - 40 * n;
         memcpy(last, drawn, 40 * n);
         judge(last, n, answers + BYTES - 12 * n);
-        hendovita_judge_batch(last, 40 * n, answers + BYTES - 12 * n + 1,
-                              12 * n - 1);
+        refuse(last, n, answers + BYTES - 12 * n + 1);
         memcpy(questions, drawn, 40 * n);
         judge(questions, n, answers);
-        report_question(last, hendovita_judge_question(last, 40),
-                        plain_question(last));
+        report_question("alone", questions + BYTES - 40,
+                        hendovita_judge_question(questions + BYTES - 40, 40),
+                        plain_question(questions + BYTES - 40));
     }
 }
 

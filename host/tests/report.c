@@ -5,6 +5,7 @@
 
 #include <inttypes.h>
 #include <stdarg.h>
+#include <stdbool.h>
 #include <stdio.h>
 
 enum { PRINTED = 5 }; /* faults of a test that are printed */
@@ -36,7 +37,8 @@ void report_begin(const char *name)
     fflush(stdout);
 }
 
-bool report_fault(void)
+/* Counts a fault. The first few of a test are worth printing. */
+static bool is_printed(void)
 {
     faults++;
     if (faults == 1)
@@ -46,13 +48,14 @@ bool report_fault(void)
 
 void report_say(const char *format, ...)
 {
-    if (!report_fault())
+    if (!is_printed())
         return;
     va_list arguments;
     va_start(arguments, format);
     vprintf(format, arguments);
     va_end(arguments);
     printf("\n");
+    fflush(stdout);
 }
 
 void report_same(const char *what, uint64_t found, uint64_t due)
@@ -74,19 +77,20 @@ static void print_answers(struct hendovita_answer found,
            found.number, found.lowest, found.highest);
     printf("  due   %" PRIu32 " %" PRIu32 " %" PRIu32 "\n",
            due.number, due.lowest, due.highest);
+    fflush(stdout);
 }
 
-void report_question(const uint8_t question[40], struct hendovita_answer found,
-                     struct plain_answer due)
+void report_question(const char *how, const uint8_t question[40],
+                     struct hendovita_answer found, struct plain_answer due)
 {
     static const char *const names[9] = {
         "price", "current bid", "current ask", "last bid", "last ask",
         "previous close", "day low", "day high", "nominal",
     };
-    if (same(found, due) || !report_fault())
+    if (same(found, due) || !is_printed())
         return;
-    printf("  side %u, order type %u, queue %u, byte 3 %u", question[0],
-           question[1], question[2], question[3]);
+    printf("  %s: side %u, order type %u, queue %u, byte 3 %u", how,
+           question[0], question[1], question[2], question[3]);
     for (int i = 0; i < 9; i++)
         printf(", %s %" PRIu32, names[i],
                hendovita_get_number(question + 4 + 4 * i));
@@ -101,7 +105,7 @@ void report_trade(const uint32_t fields[6], struct hendovita_answer found,
         "price", "previous close", "lowest bid", "lowest ask", "highest bid",
         "highest ask",
     };
-    if (same(found, due) || !report_fault())
+    if (same(found, due) || !is_printed())
         return;
     printf("  trade");
     for (int i = 0; i < 6; i++)

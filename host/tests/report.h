@@ -4,7 +4,6 @@
 #ifndef REPORT_H
 #define REPORT_H
 
-#include <stdbool.h>
 #include <stdint.h>
 
 #include "hendovita.h"
@@ -13,9 +12,6 @@
 /* Begins a test. Its name is printed before it runs. */
 void report_begin(const char *name);
 
-/* Whether a fault is worth printing: the first few of a test are. Counts it. */
-bool report_fault(void);
-
 /* A fault with a line that says what is wrong, as printf would print it. */
 void report_say(const char *format, ...);
 
@@ -23,9 +19,9 @@ void report_say(const char *format, ...);
 void report_same(const char *what, uint64_t found, uint64_t due);
 
 /* Faults unless the answer is the one that is due: they print the question's
- * or the trade's fields and both answers. */
-void report_question(const uint8_t question[40], struct hendovita_answer found,
-                     struct plain_answer due);
+ * or the trade's fields and both answers, and how the question was asked. */
+void report_question(const char *how, const uint8_t question[40],
+                     struct hendovita_answer found, struct plain_answer due);
 void report_trade(const uint32_t fields[6], struct hendovita_answer found,
                   struct plain_answer due);
 

@@ -26,13 +26,19 @@ pub struct Outcome {
 
 // Judges each question of a batch. Answer k goes into bytes 12 k to 12 k + 11 of the buffer, and the bytes after the last answer keep
 // their content. Bytes that are no batch, or a buffer that is too short, get 1: the buffer then keeps every byte.
-//
-// A C program calls it; a slice is a pointer and a length there.
-#[no_mangle]
-pub extern "C" fn hendovita_judge_batch(questions: &[u8], answers: &mut [u8]) -> Outcome
+pub fn judge_batch(questions: &[u8], answers: &mut [u8]) -> Outcome
     ensures outcome { λ r. ⌜ r ≡ outcomeOf (now (questions .entry)) (now (answers .entry)) ⌝ }
     ensures buffer { λ _. ⌜ now (answers .exit) ≡ bufferAfter (ladder phase1) fivePercent (now (questions .entry)) (now (answers .entry)) ⌝ }
 {
     let table = ladder::table::phase_1();
     batches::judge(&table, five_percent(), questions, answers)
+}
+
+// The same for C, where a slice is a pointer and a length.
+#[no_mangle]
+pub extern "C" fn hendovita_judge_batch(questions: &[u8], answers: &mut [u8]) -> Outcome
+    ensures outcome { λ r. ⌜ r ≡ outcomeOf (now (questions .entry)) (now (answers .entry)) ⌝ }
+    ensures buffer { λ _. ⌜ now (answers .exit) ≡ bufferAfter (ladder phase1) fivePercent (now (questions .entry)) (now (answers .entry)) ⌝ }
+{
+    judge_batch(questions, answers)
 }

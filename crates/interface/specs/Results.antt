@@ -6,7 +6,8 @@ use Rattle.ladder.specs.declared.Place.the-variants.{At, OffLadder}
 use Rattle.interface.specs.declared.PriceFound.{PriceFound}
 use Rattle.interface.specs.declared.PlaceFound.{PlaceFound}
 
--- "a price off the ladder is told apart from every proper answer. So is a step or a limit asked from a price off the ladder."
+-- "a place above 11,739 or a price off the ladder is told apart from every proper answer. So is a step or a limit asked from a price
+-- off the ladder."
 unfoldable pub priceFound : Found → PriceFound
 priceFound (Price p) = record { found = 1; price = p }
 priceFound Nothing = record { found = 0; price = 0 }

@@ -1,5 +1,5 @@
-// The C interface beside the batch: the other functions that include/hendovita.h declares. Each hands on to the call of a crate below
-// that has its name, and none has a precondition.
+// The C interface beside the batch: the other functions that include/hendovita.h declares. Each hands on to a call of the crates below,
+// and none has a precondition.
 mod results; // results.rt: a price or a place, or none, as two numbers
 
 use judging::Answer;

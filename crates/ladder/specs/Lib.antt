@@ -4,7 +4,9 @@
 --
 -- Notation. `declared.X` is the struct or enum X of src/; `r .x` is its field x, and a name with a bar in it stands in «..».
 -- `eqb a b`, `ltb a b`, `leb a b` test a = b, a < b, a <= b; `T b` says that the test b passes; `cond b x y` is x where b is true, and
--- else y. `a ≡ b` says that a is b, `A × B` that both hold, `A → ⊥` that A never holds. `getD s i 0` is entry i of the list s.
+-- else y. `a ≡ b` says that a is b, `A × B` that both hold, `A ⊎ B` that one does, `A → ⊥` that A never holds. `suc n` is n + 1.
+-- Of lists, `a ∷ l` puts a before l, `l ++ m` puts m after l, `take n l` is the first n entries, `drop n l` the rest, and `getD l i 0`
+-- entry i, from 0.
 -- `abbrev` and `unfoldable` only tell the prover when to open a definition, and a `let` keeps a search from computing on when it has
 -- found something.
 pub mod Bands

@@ -1,7 +1,7 @@
 -- The Phase 1 table stands for the Phase 1 bands.
 use borrow.Author.Needs.{needs}
-use Rattle.batch.proofs.hendovita_judge_batch.Statement.{statement}
-use Rattle.batch.proofs.hendovita_judge_batch.Tie as tie
+use Rattle.batch.proofs.judge_batch.Statement.{statement}
+use Rattle.batch.proofs.judge_batch.Tie as tie
 
 returns : tie.Need-returns
 returns c = (
@@ -10,6 +10,6 @@ returns c = (
       (c .before .before .judge .ensures .1),
 )
 
-pub hendovita-judge-batch-spec : {M : Type 1} → statement M
-hendovita-judge-batch-spec =
+pub judge-batch-spec : {M : Type 1} → statement M
+judge-batch-spec =
     tie.close (tie.spec (λ c κs. search needs) (λ c. search needs) (λ c κs. search needs) (λ c κs. search needs) (λ c. search needs) returns)
