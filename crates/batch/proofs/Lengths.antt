@@ -1,30 +1,25 @@
 -- What a batch that is not turned away has: at most 1,000 whole questions, and room for their answers.
-use mathlib.Core.Path.{_≡_, refl}
+use mathlib.Core.Path.{_≡_}
 use Prim.Native.Nat.{ℕ, _*_, _≤_, _%_}
 use native.Mathlib.Nat.{div-add-mod'}
 use native.Mathlib.Omega.{arith}
-use mathlib.Core.Bool.{Bool, true, false, not, _||_}
+use mathlib.Core.Bool.{false, not, _||_}
 use lib.Dec.{eqb, ltb}
 use borrow.Author.Tests.{ltb-false}
-use Rattle.ladder.proofs.Lists.Truth.{untrue}
+use Rattle.ladder.proofs.Lists.Truth.{or-false}
 use Rattle.questions.specs.Record.{questionBytes}
 use Rattle.batch.specs.Record.{answerBytes}
 use Rattle.batch.specs.Batch.{mostQuestions, countOf, refused}
 
--- neither of two
-neither : (a b : Bool) → (a || b) ≡ false → (a ≡ false) × (b ≡ false)
-neither false b h = (refl, h)
-neither true b h = absurd (untrue true h tt)
-
 pub few : (asked room : ℕ) → refused asked room ≡ false → countOf asked ≤ mostQuestions
 few asked room h =
-    let first-two = neither (not (eqb (asked % questionBytes) 0) || ltb mostQuestions (countOf asked)) (ltb room (countOf asked * answerBytes)) h .0 in
-    ltb-false mostQuestions (countOf asked) (neither (not (eqb (asked % questionBytes) 0)) (ltb mostQuestions (countOf asked)) first-two .1)
+    let first-two = or-false (not (eqb (asked % questionBytes) 0) || ltb mostQuestions (countOf asked)) (ltb room (countOf asked * answerBytes)) h .0 in
+    ltb-false mostQuestions (countOf asked) (or-false (not (eqb (asked % questionBytes) 0)) (ltb mostQuestions (countOf asked)) first-two .1)
 
 pub fitting : (asked room : ℕ) → refused asked room ≡ false → countOf asked * answerBytes ≤ room
 fitting asked room h =
     ltb-false room (countOf asked * answerBytes)
-    (neither (not (eqb (asked % questionBytes) 0) || ltb mostQuestions (countOf asked)) (ltb room (countOf asked * answerBytes)) h .1)
+    (or-false (not (eqb (asked % questionBytes) 0) || ltb mostQuestions (countOf asked)) (ltb room (countOf asked * answerBytes)) h .1)
 
 pub whole : (asked : ℕ) → countOf asked * questionBytes ≤ asked
 whole asked = omega (arith, div-add-mod' asked questionBytes)

@@ -1,6 +1,6 @@
 // A batch: many questions, judged into one answer buffer.
 //
-// The call of this file uses the Phase 1 table and 5 percent. That of `batches` is lent a table and holds for every well-formed one.
+// The calls of this file use the Phase 1 table and 5 percent. That of `batches` is lent a table and holds for every well-formed one.
 pub mod batches; // batches.rt: the checks on a batch, and its answers one after the other
 mod encoding; // encoding.rt: an answer as 12 bytes
 

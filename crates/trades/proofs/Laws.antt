@@ -8,7 +8,7 @@ use borrow.Author.Tests.{le-ltb}
 use Rattle.ladder.specs.Bands.{Table, wellFormed}
 use Rattle.ladder.specs.Ladder.{Prices, ladder, isLadderPrice}
 use Rattle.ladder.specs.Places.{firstPrice, lastPrice}
-use Rattle.ladder.proofs.Lists.Truth.{and-left, and-right, zero-is-one}
+use Rattle.ladder.proofs.Lists.Truth.{and-left, and-right, or-false, zero-is-one}
 use Rattle.ladder.proofs.Lists.Rising.{over-first, under-last}
 use Rattle.ladder.proofs.Laws.{rising, listed, ends-are-the-tables}
 use Rattle.limits.specs.declared.Percentage.{Percentage}
@@ -24,7 +24,7 @@ use Rattle.judging.proofs.Acceptance.{below}
 use Rattle.trades.specs.declared.TradeReferences.{TradeReferences}
 use Rattle.trades.specs.Trades.{anyTradeOff, tradeDisagrees, tradeRange, tradeReading, tradeVerdict, tradeBy, tradeJudged}
 use Rattle.trades.specs.Laws.{isTradeRefusal, Numbers, TradeNumbers, FromTo, TradeRange, TradeLaws}
-use Rattle.trades.proofs.Pairs.{or-false, paired, range-rises, on, least-on, greatest-on, price-on, low-on, high-on, limits-paired}
+use Rattle.trades.proofs.Pairs.{paired, range-rises, on, least-on, greatest-on, price-on, low-on, high-on, limits-paired}
 
 -- a trade with a range gets 0, 6, 8 or 9
 priced : (l : Prices) (range : Range) (p : ℕ) → Numbers (tradeBy l (Permitted range) p)

@@ -1,8 +1,8 @@
 -- References of a trade: on the ladder, in pairs of a low and a high, and the range that they make.
-use mathlib.Core.Path.{_≡_, refl}
+use mathlib.Core.Path.{_≡_}
 use Prim.Native.Nat.{ℕ, _≤_}
 use native.Mathlib.Omega.{arith}
-use mathlib.Core.Bool.{Bool, true, false, not, _||_}
+use mathlib.Core.Bool.{true, false, not}
 use lib.Dec.{T}
 use borrow.Author.Tests.{ltb-false, not-false}
 use Rattle.ladder.specs.Bands.{Table, wellFormed}
@@ -21,10 +21,6 @@ use Rattle.ranges.specs.Bounds.{Low, High}
 
 true-is-false : {C : Type 0} → true ≡ false → C
 true-is-false e = let n : _≡_ {A = ℕ} 0 1 = cc in absurd (zero-is-one n)
-
-pub or-false : (a b : Bool) → (a || b) ≡ false → (a ≡ false) × (b ≡ false)
-or-false true b e = true-is-false e
-or-false false b e = (refl, e)
 
 -- ---- pairs
 

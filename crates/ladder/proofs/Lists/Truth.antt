@@ -54,3 +54,8 @@ true-of b e = rw e tt
 
 pub untrue : (b : Bool) → b ≡ false → T b → ⊥
 untrue b e t = rw e at t
+
+-- neither of two
+pub or-false : (a b : Bool) → (a || b) ≡ false → (a ≡ false) × (b ≡ false)
+or-false true b e = absurd (untrue true e tt)
+or-false false b e = (refl, e)

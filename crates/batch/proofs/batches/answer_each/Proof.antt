@@ -1,3 +1,4 @@
+-- One answer a turn, each after those before it.
 use borrow.Author.Needs.{needs}
 use mathlib.Core.Path.{_≡_, refl, ap, _∙_}
 use Prim.Native.Nat.{_+_, _-_, _*_, _≤_}
@@ -10,10 +11,6 @@ use Rattle.ladder.specs.Layout.{pricesOf}
 use Rattle.batch.specs.Batch.{answersTo, answered}
 use Rattle.batch.proofs.batches.answer_each.Statement.{statement}
 use Rattle.batch.proofs.batches.answer_each.Tie as tie
-use Rattle.batch.proofs.batches.answer_each.Reads as reads
-use Rattle.batch.proofs.batches.answer_each.Lts as lts
-use Rattle.batch.proofs.encoding.encode.Reads as encode-reads
-use Rattle.judging.proofs.answers.judge.Reads as judge-reads
 
 abbrev Inv-loop : tie.InvT-loop
 Inv-loop table percentage questions answers₀ count k₀ answers k =
@@ -35,9 +32,6 @@ room c =
 
 part-encode-end : tie.Need-part-encode-end Inv-loop μ-loop
 part-encode-end c = omega (arith, room (c .before .before .before))
-
-encode-requires : tie.Need-encode-requires Inv-loop μ-loop
-encode-requires c κs = search needs
 
 loop-again : tie.Need-loop-again Inv-loop μ-loop
 loop-again c =
@@ -63,24 +57,4 @@ returns c =
 pub answer-each-spec : {M : Type 1} → statement M
 answer-each-spec =
     tie.close
-    (tie.spec
-    Inv-loop
-    μ-loop
-    loop-holds
-    (λ c. omega arith)
-    (λ c. omega arith)
-    (λ c. omega arith)
-    (λ c. omega arith)
-    (λ c. omega arith)
-    (λ c κs. search needs)
-    (λ c. omega arith)
-    (λ c. omega arith)
-    (λ c. omega arith)
-    (λ c. omega arith)
-    part-encode-end
-    encode-requires
-    (λ c. omega arith)
-    (λ c. omega arith)
-    loop-again
-    same-length
-    returns)
+    (tie.spec Inv-loop μ-loop loop-holds (λ c. omega arith) (λ c. omega arith) (λ c. omega arith) (λ c. omega arith) (λ c. omega arith) (λ c κs. search needs) (λ c. omega arith) (λ c. omega arith) (λ c. omega arith) (λ c. omega arith) part-encode-end (λ c κs. search needs) (λ c. omega arith) (λ c. omega arith) loop-again same-length returns)

@@ -1,3 +1,4 @@
+-- Turned away, or each question answered.
 use borrow.Author.Needs.{needs}
 use mathlib.Core.Path.{_≡_, refl, sym, _∙_}
 use native.Mathlib.Omega.{arith}
