@@ -10,7 +10,8 @@ use Rattle.limits.specs.declared.Percentage.{Percentage}
 use Rattle.judging.specs.declared.Answer.{Answer}
 use Rattle.judging.specs.Answers.{judged}
 use Rattle.batch.specs.Record.{answerBytes, encoded}
-use Rattle.batch.specs.Batch.{questionAt, answersTo, answered}
+use Rattle.questions.specs.Record.{questionAt}
+use Rattle.batch.specs.Batch.{answersTo, answered}
 use Rattle.batch.proofs.Parts.{placed}
 
 pub length-encoded : (a : Answer) → length (encoded a) ≡ answerBytes

@@ -9,8 +9,7 @@ use lib.Dec.{ltb}
 use lib.ListN.{length, getD, drop, length-append, length-take, length-drop, List·getD-append, List·getD-eq-default}
 use lib.Seq.{getD-take, getD-drop, getD-append-add, ext-getD}
 use borrow.Author.Tests.{ltb-true, ltb-false}
-use Rattle.questions.specs.Record.{questionBytes}
-use Rattle.batch.specs.Batch.{questionAt}
+use Rattle.questions.specs.Record.{questionBytes, questionAt}
 use Rattle.batch.specs.Laws.{SameBut}
 
 -- every other question is the same

@@ -17,13 +17,13 @@ use Rattle.ladder.proofs.Lists.Truth.{passed, and-right, or-cases}
 use Rattle.ladder.proofs.Lists.Rising.{under-last}
 use Rattle.ladder.proofs.Laws.{rising, listed}
 use Rattle.limits.specs.declared.Percentage.{Percentage}
-use Rattle.questions.specs.Record.{questionBytes, number}
+use Rattle.questions.specs.Record.{questionBytes, number, countOf, questionAt}
 use Rattle.judging.specs.declared.Answer.{Answer}
 use Rattle.judging.specs.Answers.{judged}
 use Rattle.judging.specs.Laws.{notRefused, isQuestionNumber}
 use Rattle.judging.proofs.Laws.{range-or-none, question-numbers, any-order-price}
 use Rattle.batch.specs.Record.{answerBytes, encoded, answerAt}
-use Rattle.batch.specs.Batch.{countOf, refused, questionAt, answersTo, answered, bufferAfter}
+use Rattle.batch.specs.Batch.{refused, answersTo, answered, bufferAfter}
 use Rattle.batch.specs.Laws.{isJudged, AnswerAlone, AnswerReadsBack, SameBut, OthersKept, AnyOrderPriceInBatch, BatchLaws}
 use Rattle.batch.proofs.Lengths.{whole}
 use Rattle.batch.proofs.Changes.{same-question, changed-record, followed}

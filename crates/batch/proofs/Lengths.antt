@@ -7,9 +7,9 @@ use mathlib.Core.Bool.{false, not, _||_}
 use lib.Dec.{eqb, ltb}
 use borrow.Author.Tests.{ltb-false}
 use Rattle.ladder.proofs.Lists.Truth.{or-false}
-use Rattle.questions.specs.Record.{questionBytes}
+use Rattle.questions.specs.Record.{questionBytes, countOf}
 use Rattle.batch.specs.Record.{answerBytes}
-use Rattle.batch.specs.Batch.{mostQuestions, countOf, refused}
+use Rattle.batch.specs.Batch.{mostQuestions, refused}
 
 pub few : (asked room : ℕ) → refused asked room ≡ false → countOf asked ≤ mostQuestions
 few asked room h =

@@ -1,12 +1,12 @@
 -- A batch of questions, and the buffer of its answers.
-use Prim.Native.Nat.{ℕ, zero, suc, _*_, _/_, _%_}
+use Prim.Native.Nat.{ℕ, zero, suc, _*_, _%_}
 use mathlib.Core.Bool.{Bool, not, _||_, cond}
 use mathlib.Core.List.{[], _++_}
 use lib.Dec.{eqb, ltb}
-use lib.ListN.{length, take, drop}
+use lib.ListN.{length, drop}
 use Rattle.ladder.specs.Ladder.{Prices}
 use Rattle.limits.specs.declared.Percentage.{Percentage}
-use Rattle.questions.specs.Record.{Bytes, questionBytes}
+use Rattle.questions.specs.Record.{Bytes, questionBytes, countOf, questionAt}
 use Rattle.judging.specs.Answers.{judged}
 use Rattle.batch.specs.declared.Outcome.{Outcome}
 use Rattle.batch.specs.Record.{answerBytes, encoded}
@@ -15,18 +15,10 @@ use Rattle.batch.specs.Record.{answerBytes, encoded}
 abbrev pub mostQuestions : ℕ
 mostQuestions = 1000
 
--- how many whole questions so many bytes hold
-abbrev pub countOf : ℕ → ℕ
-countOf asked = asked / questionBytes
-
 -- "1: batch not a multiple of 40 bytes, over 1,000 questions, or answer buffer under 12 bytes a question." By the bytes of the batch
 -- and of the buffer.
 abbrev pub refused : ℕ → ℕ → Bool
 refused asked room = not (eqb (asked % questionBytes) 0) || ltb mostQuestions (countOf asked) || ltb room (countOf asked * answerBytes)
-
--- the bytes of question k, from 0
-abbrev pub questionAt : ℕ → Bytes → Bytes
-questionAt k s = take questionBytes (drop (k * questionBytes) s)
 
 -- the answers to the first n questions, end to end: "The answer of question k (from 0) goes into bytes 12k to 12k+11 of the answer
 -- buffer"

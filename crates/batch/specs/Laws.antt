@@ -8,11 +8,11 @@ use Rattle.ladder.specs.Bands.{Table, wellFormed}
 use Rattle.ladder.specs.Ladder.{Prices, ladder}
 use Rattle.ladder.specs.Places.{lastPrice}
 use Rattle.limits.specs.declared.Percentage.{Percentage}
-use Rattle.questions.specs.Record.{Bytes, questionBytes, priceOf}
+use Rattle.questions.specs.Record.{Bytes, questionBytes, priceOf, countOf, questionAt}
 use Rattle.judging.specs.Answers.{judged}
 use Rattle.judging.specs.Laws.{notRefused, SameButPrice, SameRange}
 use Rattle.batch.specs.Record.{answerBytes, encoded, answerAt}
-use Rattle.batch.specs.Batch.{countOf, refused, questionAt, outcomeOf, bufferAfter}
+use Rattle.batch.specs.Batch.{refused, outcomeOf, bufferAfter}
 
 -- the batch s is judged into the buffer a
 abbrev pub isJudged : Bytes → Bytes → Bool

@@ -1,9 +1,9 @@
 -- A question from its 40 bytes.
-use Prim.Native.Nat.{ℕ, _+_, _*_}
+use Prim.Native.Nat.{ℕ, _+_, _*_, _/_}
 use mathlib.Core.Bool.{cond}
 use mathlib.Core.List.{List}
 use lib.Dec.{eqb}
-use lib.ListN.{length, getD}
+use lib.ListN.{length, getD, take, drop}
 use Rattle.questions.specs.declared.Codes.{Codes}
 use Rattle.questions.specs.declared.References.{References}
 use Rattle.questions.specs.declared.Question.{Question}
@@ -18,6 +18,13 @@ Bytes = List ℕ
 -- how many bytes a question has
 abbrev pub questionBytes : ℕ
 questionBytes = 40
+
+-- "Files of questions are these records end to end": how many whole questions so many bytes hold, and the bytes of question k, from 0
+abbrev pub countOf : ℕ → ℕ
+countOf asked = asked / questionBytes
+
+abbrev pub questionAt : ℕ → Bytes → Bytes
+questionAt k s = take questionBytes (drop (k * questionBytes) s)
 
 -- the 4-byte little-endian number from a byte on
 abbrev pub number : ℕ → Bytes → ℕ

@@ -1,0 +1,41 @@
+-- The laws of decimal numbers. Each is proved in proofs/Laws.antt: DecimalIs as decimal-is, and so on.
+use mathlib.Core.Path.{_≡_}
+use Prim.Native.Nat.{ℕ, _+_, _*_, _-_, _/_, _%_, _^_, _<_, _≤_}
+use mathlib.Core.Bool.{Bool, true, cond, _&&_}
+use mathlib.Core.List.{[], _∷_, _++_}
+use lib.Dec.{T, ltb, leb}
+use lib.ListN.{length, getD}
+use Rattle.text.specs.Decimal.{Text, digit, decimal}
+
+-- One digit, or the last one after those of a tenth.
+abbrev pub DecimalIs : Type 0
+DecimalIs = (n : ℕ) → decimal n ≡ cond (ltb n 10) (digit n ∷ []) (decimal (n / 10) ++ (digit (n % 10) ∷ []))
+
+-- the number that digits stand for, after those that stand for v
+abbrev pub valueAfter : ℕ → Text → ℕ
+valueAfter v [] = v
+valueAfter v (c ∷ s) = valueAfter (v * 10 + (c - 48)) s
+
+-- every character is a digit
+abbrev pub areDigits : Text → Bool
+areDigits [] = true
+areDigits (c ∷ s) = leb 48 c && leb c 57 && areDigits s
+
+-- Read back, the digits stand for the number; they are digits, and the first is 0 for the number 0 only. No other text is like that.
+pub record Decimal (n : ℕ) : Type 0 where
+  pub reads-back : valueAfter 0 (decimal n) ≡ n
+  pub digits : T (areDigits (decimal n))
+  pub no-zero-in-front : getD (decimal n) 0 0 ≡ digit 0 → n ≡ 0
+
+abbrev pub DecimalReadsBack : Type 0
+DecimalReadsBack = (n : ℕ) → Decimal n
+
+-- A number below a power of ten has no more digits than the power says.
+abbrev pub DecimalIsShort : Type 0
+DecimalIsShort = (k n : ℕ) → 0 < k → n < 10 ^ k → length (decimal n) ≤ k
+
+-- All of them.
+pub record TextLaws : Type 0 where
+  pub decimal-is : DecimalIs
+  pub decimal-reads-back : DecimalReadsBack
+  pub decimal-is-short : DecimalIsShort
