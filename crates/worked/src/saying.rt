@@ -1,0 +1,120 @@
+// A line of output: what was asked, what was found, and whether that is right.
+use super::orders::Order;
+use super::orders::question;
+use judging::Answer;
+use ladder::Found;
+use libc::STDOUT_FILENO;
+
+fn say(word: &[u8]) {
+    io::write_all(STDOUT_FILENO, word);
+}
+
+fn say_number(n: u32) {
+    io::print_decimal(STDOUT_FILENO, n as u64);
+}
+
+fn say_answer(answer: Answer) {
+    say_number(answer.number);
+    say(b" ");
+    say_number(answer.lowest);
+    say(b" ");
+    say_number(answer.highest);
+}
+
+fn say_whether(is_right: bool) {
+    if is_right {
+        say(b" right\n");
+    } else {
+        say(b" WRONG\n");
+    }
+}
+
+// An answer at a price, and the one that is due.
+fn compare(asked: &[u8], price: u32, found: Answer, due: Answer) {
+    say(asked);
+    say(b" at ");
+    say_number(price);
+    say(b": ");
+    say_answer(found);
+    say(b", due ");
+    say_answer(due);
+    say_whether(
+        (found.number == due.number)
+            & (found.lowest == due.lowest)
+            & (found.highest == due.highest),
+    );
+}
+
+// An order at a price, judged by its bytes.
+pub fn order(asked: &[u8], tried: Order, price: u32, number: u32, lowest: u32, highest: u32) {
+    let bytes = question(tried, price);
+    let due = Answer {
+        number: number,
+        lowest: lowest,
+        highest: highest,
+    };
+    compare(asked, price, judging::judge(&bytes), due);
+}
+
+// An order price outside the range, and the number that it gets.
+pub struct Tried {
+    pub price: u32,
+    pub number: u32,
+}
+
+pub fn outside(price: u32, number: u32) -> Tried {
+    Tried {
+        price: price,
+        number: number,
+    }
+}
+
+// An order at the lowest and the highest price shown, and at one below and one above.
+pub fn range(asked: &[u8], tried: Order, lowest: u32, highest: u32, below: Tried, above: Tried) {
+    order(asked, tried, lowest, 0, lowest, highest);
+    order(asked, tried, highest, 0, lowest, highest);
+    order(asked, tried, below.price, below.number, lowest, highest);
+    order(asked, tried, above.price, above.number, lowest, highest);
+}
+
+// The answer to a trade.
+pub fn trade(asked: &[u8], price: u32, found: Answer, number: u32, lowest: u32, highest: u32) {
+    let due = Answer {
+        number: number,
+        lowest: lowest,
+        highest: highest,
+    };
+    compare(asked, price, found, due);
+}
+
+// The price that was found, or 0 for none, which is no ladder price.
+fn price_of(found: Found) -> u32 {
+    match found {
+        Found::Price(price) => price,
+        Found::Nothing => 0,
+    }
+}
+
+// A step or a limit.
+pub fn price(asked: &[u8], found: Found, due: u32) {
+    let price = price_of(found);
+    say(asked);
+    say(b": ");
+    say_number(price);
+    say(b", due ");
+    say_number(due);
+    say_whether(price == due);
+}
+
+// A step or a limit, and what a wrong program would find.
+pub fn price_and_not(asked: &[u8], found: Found, due: u32, not: u32) {
+    let price = price_of(found);
+    say(asked);
+    say(b": ");
+    say_number(price);
+    say(b", due ");
+    say_number(due);
+    say(b" and not ");
+    say_number(not);
+    say_whether((price == due) & (price != not));
+}
