@@ -1,8 +1,8 @@
-# make            build/libhendovita.a, proved
-# make check      the host tests: the library against an independent judge
-# make demo       the example gateway
-# make bench      the library against a plain C judge written for speed
-# make install    header, archive and pkg-config file below PREFIX
+# make            build/libhendovita.a and build/pricecheck, proved, and build/ask
+# make demo       pricecheck on the example questions
+# make check      the host tests: library and program against an independent judge
+# make bench      both against plain C written for speed
+# make install    header, archive, pkg-config file, pricecheck and ask below PREFIX
 
 PREFIX = /usr/local
 DESTDIR =
@@ -11,14 +11,17 @@ VERSION = 0.1.0
 CFLAGS = -O2
 STRICT = -std=c11 -Wall -Wextra -Wpedantic -Wconversion -Werror
 LIBRARY = build/libhendovita.a
+PRICECHECK = build/pricecheck
 HEADER = include/hendovita.h
 RATTLE = crates.txt $(shell find crates -name '*.rt' -o -name '*.antt')
 PLAIN = $(wildcard host/plain/*.c host/draw/*.c)
 PLAIN_HEADERS = $(wildcard host/plain/*.h host/draw/*.h)
 TESTS = $(wildcard host/tests/*.c)
-BENCH = $(wildcard bench/*.c)
+ASK = $(wildcard tools/*.c)
+LINES = build/plaincheck build/drawn build/dribble build/breaks build/memory
+INCLUDES = -Iinclude -Ihost/plain -Ihost/draw
 
-all: $(LIBRARY)
+all: $(LIBRARY) $(PRICECHECK) build/ask
 
 # The batch and the other calls are an object each.
 $(LIBRARY): $(RATTLE) Makefile
@@ -29,26 +32,44 @@ $(LIBRARY): $(RATTLE) Makefile
 	cd build && ar x ../target/staticlib/libbatch.a && ar x ../target/staticlib/libinterface.a
 	ar rcs $@ build/batch.o build/interface.o
 
+$(PRICECHECK): $(RATTLE) Makefile
+	rt check pricecheck
+	mkdir -p build
+	cp target/bin/pricecheck $@
+
+build/ask: $(HEADER) $(ASK) $(wildcard tools/*.h)
+	mkdir -p build
+	$(CC) $(STRICT) $(CFLAGS) -Iinclude $(ASK) -o $@
+
 build/host-tests: $(LIBRARY) $(HEADER) $(TESTS) $(PLAIN) $(PLAIN_HEADERS) $(wildcard host/tests/*.h)
-	$(CC) $(STRICT) $(CFLAGS) -Iinclude -Ihost/plain -Ihost/draw $(TESTS) $(PLAIN) $(LIBRARY) -o $@
+	$(CC) $(STRICT) $(CFLAGS) $(INCLUDES) $(TESTS) $(PLAIN) $(LIBRARY) -o $@
+
+$(LINES): build/%: host/lines/%.c $(PLAIN) $(PLAIN_HEADERS)
+	mkdir -p build
+	$(CC) $(STRICT) $(CFLAGS) $(INCLUDES) $< $(PLAIN) -o $@
 
 build/gateway: $(LIBRARY) $(HEADER) examples/gateway.c
 	$(CC) $(STRICT) $(CFLAGS) -Iinclude examples/gateway.c $(LIBRARY) -o $@
 
-build/bench: $(LIBRARY) $(HEADER) $(BENCH) $(wildcard bench/*.h) $(PLAIN) $(PLAIN_HEADERS)
-	$(CC) $(STRICT) -O3 -Iinclude -Ihost/plain -Ihost/draw $(BENCH) $(PLAIN) $(LIBRARY) -o $@
+build/bench: $(LIBRARY) $(HEADER) $(wildcard bench/*.c bench/*.h) $(PLAIN) $(PLAIN_HEADERS)
+	$(CC) $(STRICT) -O3 $(INCLUDES) bench/bench.c bench/programs.c bench/mixes.c bench/quick.c $(PLAIN) $(LIBRARY) -o $@
 
-check: build/host-tests build/gateway build/bench
+build/quickcheck: bench/quickcheck.c bench/quick.c bench/quick.h
+	mkdir -p build
+	$(CC) $(STRICT) -O3 bench/quickcheck.c bench/quick.c -o $@
+
+check: all build/host-tests build/gateway $(LINES) build/bench build/quickcheck
 	host/run
 
-demo: build/gateway
-	build/gateway
+demo: all
+	build/ask write examples/questions.txt | build/pricecheck
 
-bench: build/bench
+bench: all build/bench build/quickcheck
 	build/bench
 
-install: $(LIBRARY)
-	mkdir -p "$(DESTDIR)$(PREFIX)/include" "$(DESTDIR)$(PREFIX)/lib/pkgconfig"
+install: all
+	mkdir -p "$(DESTDIR)$(PREFIX)/bin" "$(DESTDIR)$(PREFIX)/include" "$(DESTDIR)$(PREFIX)/lib/pkgconfig"
+	install -m 755 $(PRICECHECK) build/ask "$(DESTDIR)$(PREFIX)/bin"
 	install -m 644 $(HEADER) "$(DESTDIR)$(PREFIX)/include/hendovita.h"
 	install -m 644 $(LIBRARY) "$(DESTDIR)$(PREFIX)/lib/libhendovita.a"
 	sed 's|@PREFIX@|$(PREFIX)|; s|@VERSION@|$(VERSION)|' include/hendovita.pc.in > build/hendovita.pc
@@ -58,4 +79,5 @@ clean:
 	rm -rf build
 
 .DELETE_ON_ERROR:
+.NOTPARALLEL:
 .PHONY: all check demo bench install clean

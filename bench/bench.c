@@ -1,29 +1,24 @@
 /*
  * Speed: the library's batch against a plain C judge written for speed, on the
- * same questions, turn by turn in one run. Of each the best round counts.
+ * same questions, turn by turn in one run, of each the best round; and the
+ * program likewise.
  */
 #define _POSIX_C_SOURCE 199309L
 #include <stdio.h>
 #include <stdlib.h>
 #include <string.h>
-#include <time.h>
 
+#include "clock.h"
 #include "hendovita.h"
 #include "mixes.h"
 #include "plain.h"
+#include "programs.h"
 #include "quick.h"
 
 enum { QUESTIONS = 100000, ROUNDS = 15 };
 
 static uint8_t questions[QUESTIONS * 40];
 static uint8_t answers[2][QUESTIONS * 12];
-
-static double now(void)
-{
-    struct timespec t;
-    clock_gettime(CLOCK_MONOTONIC, &t);
-    return (double)t.tv_sec + (double)t.tv_nsec / 1e9;
-}
 
 /* Seconds for all questions in batches of n, by the library. */
 static double time_library(size_t n)
@@ -99,5 +94,10 @@ int main(void)
     plain_begin();
     run("usual orders over 0.50 to 50", mix_usual);
     run("random over the whole ladder, a fifth damaged", mix_random);
+    printf("the program, from a file of questions to lines\n"
+           "             pricecheck      plain C   ratio\n"
+           "               M/s    ns    M/s    ns\n");
+    time_programs("usual", mix_usual);
+    time_programs("random", mix_random);
     return 0;
 }
