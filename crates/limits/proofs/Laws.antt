@@ -18,7 +18,7 @@ use Rattle.ladder.proofs.Answers.{has-answer}
 use Rattle.ladder.proofs.Laws.{rising, listed, priced}
 use Rattle.ladder.proofs.Laws.{the-phase1-table, the-ladder, first-is-smallest, latest-is-largest, spreads-keep-order, rounding-keeps-order}
 use Rattle.limits.specs.Limits.{low, high}
-use Rattle.limits.specs.Laws.{PercentageFinds, LimitsEnclose, LimitsAreOrdered, NoSmaller, HigherReference}
+use Rattle.limits.specs.Laws.{PercentageFinds, LimitsEnclose, LimitsAreOrdered, NoSmaller, HigherReference, LimitLaws}
 
 -- a search that cannot find nothing finds a price
 finds : (f : Found) → (f ≡ Nothing → ⊥) → (q : ℕ) × (f ≡ Price q)
@@ -122,4 +122,13 @@ higher-reference p q h k m =
     record {
       lower = no-smaller (low (ladder phase1) 100 95) p q h k (limits-are-ordered phase1 wf 100 95 p q h k m .lower);
       upper = no-smaller (high (ladder phase1) 100 105) p q h k (limits-are-ordered phase1 wf 100 105 p q h k m .upper);
+    }
+
+pub limit-laws : LimitLaws
+limit-laws =
+    record {
+      percentage-finds = percentage-finds;
+      limits-enclose = limits-enclose;
+      limits-are-ordered = limits-are-ordered;
+      higher-reference = higher-reference;
     }

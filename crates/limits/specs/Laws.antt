@@ -52,3 +52,10 @@ pub record HigherHasNoSmaller (p q : ℕ) : Type 0 where
 
 abbrev pub HigherReference : Type 0
 HigherReference = (p q : ℕ) → T (isLadderPrice p phase1) → T (isLadderPrice q phase1) → p ≤ q → HigherHasNoSmaller p q
+
+-- All of them.
+pub record LimitLaws : Type 0 where
+  pub percentage-finds : PercentageFinds
+  pub limits-enclose : LimitsEnclose
+  pub limits-are-ordered : LimitsAreOrdered
+  pub higher-reference : HigherReference

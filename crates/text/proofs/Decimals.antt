@@ -3,11 +3,11 @@ use mathlib.Core.Path.{_≡_, refl, sym, _∙_, ap}
 use Prim.Native.Nat.{ℕ, zero, suc, _+_, _/_, _%_, _≤_, _<_}
 use native.Mathlib.Omega.{arith}
 use mathlib.Core.Bool.{Bool, true, false, cond}
-use mathlib.Core.List.{[], _∷_, _++_}
+use mathlib.Core.List.{[], _∷_, _++_, append-assoc}
 use lib.Dec.{ltb}
 use lib.ListN.{length, length-append}
 use borrow.Author.Tests.{ltb-true, ltb-false, lt-ltb, le-ltb}
-use Rattle.text.specs.Decimal.{Text, digit, upTo, decimal}
+use Rattle.text.specs.Decimal.{Text, digit, twoDigits, upTo, decimal}
 
 -- more digits than a number has change nothing
 enough : (a b n : ℕ) → n < a → n < b → upTo a n ≡ upTo b n
@@ -39,6 +39,17 @@ one-digit n h = decimal-is n ∙ rw (lt-ltb n 10 h)
 
 pub last-digit : (n : ℕ) → 10 ≤ n → decimal n ≡ decimal (n / 10) ++ (digit (n % 10) ∷ [])
 last-digit n h = decimal-is n ∙ rw (le-ltb n 10 h)
+
+pub last-two : (n : ℕ) → 100 ≤ n → decimal n ≡ decimal (n / 100) ++ twoDigits (n % 100)
+last-two n h =
+    let tenth : n / 10 / 10 ≡ n / 100 = omega arith in
+    let tens : n / 10 % 10 ≡ n % 100 / 10 = omega arith in
+    let ones : n % 10 ≡ n % 100 % 10 = omega arith in
+    rw (last-digit n (omega arith), last-digit (n / 10) (omega arith), tenth, tens, ones)
+    (append-assoc (decimal (n / 100)) (digit (n % 100 / 10) ∷ []) (digit (n % 100 % 10) ∷ []))
+
+pub two-digits : (n : ℕ) → 10 ≤ n → n < 100 → decimal n ≡ twoDigits n
+two-digits n h m = rw (last-digit n h, one-digit (n / 10) (omega arith))
 
 some : (n : ℕ) (v : Bool) → 0 < length (cond v (digit n ∷ []) (decimal (n / 10) ++ (digit (n % 10) ∷ [])))
 some n true = omega arith

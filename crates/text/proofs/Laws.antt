@@ -1,5 +1,5 @@
 -- The laws of specs/Laws.antt, proved.
-use mathlib.Core.Path.{_≡_, refl, _∙_}
+use mathlib.Core.Path.{_≡_, refl, sym, _∙_, ap}
 use Prim.Native.Nat.{ℕ, zero, suc, _+_, _*_, _-_, _/_, _%_, _^_, _≤_, _<_}
 use native.Mathlib.Nat.{pow-succ'}
 use native.Mathlib.Omega.{arith}
@@ -36,7 +36,8 @@ small n h =
     record {
       reads-back = rw (one-digit n h) (omega arith);
       digits = rw (one-digit n h) (all-digits [] n h tt);
-      no-zero-in-front = rw (one-digit n h) (λ e. omega (arith, e));
+      some-digit = has-digits n;
+      no-zero-in-front = rw (one-digit n h) (λ e. ap (λ (c : ℕ). c ∷ []) e);
     }
 
 large : (n : ℕ) → 10 ≤ n → Decimal (n / 10) → Decimal n
@@ -45,10 +46,16 @@ large n h tenth =
       reads-back =
           rw (last-digit n h, value-of-both 0 (decimal (n / 10)) (digit (n % 10) ∷ []), tenth .reads-back) (omega arith);
       digits = rw (last-digit n h) (all-digits (decimal (n / 10)) (n % 10) (omega arith) (tenth .digits));
-      no-zero-in-front =
-          rw (last-digit n h, List·getD-append (decimal (n / 10)) (digit (n % 10) ∷ []) 0 0 (has-digits (n / 10)))
-          (λ e. let none = tenth .no-zero-in-front e in absurd (omega (arith, h, none)));
+      some-digit = has-digits n;
+      no-zero-in-front = λ e. absurd (omega (arith, h, none (sym first ∙ e)));
     }
+  where
+    first : getD (decimal n) 0 0 ≡ getD (decimal (n / 10)) 0 0
+    first = rw (last-digit n h) (List·getD-append (decimal (n / 10)) (digit (n % 10) ∷ []) 0 0 (has-digits (n / 10)))
+
+    -- a tenth that begins with 0 is 0
+    none : getD (decimal (n / 10)) 0 0 ≡ digit 0 → n / 10 ≡ 0
+    none e = sym (tenth .reads-back) ∙ ap (valueAfter 0) (tenth .no-zero-in-front e)
 
 pub decimal-reads-back : DecimalReadsBack
 decimal-reads-back = by-digits Decimal small large

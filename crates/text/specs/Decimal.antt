@@ -12,6 +12,10 @@ Text = List ℕ
 abbrev pub digit : ℕ → ℕ
 digit d = 48 + d
 
+-- the two digits of a number below 100
+abbrev pub twoDigits : ℕ → Text
+twoDigits n = digit (n / 10) ∷ digit (n % 10) ∷ []
+
 -- a number in decimal, if it has no more than so many digits: one digit, or its last one after those of a tenth of it
 unfoldable pub upTo : ℕ → ℕ → Text
 upTo zero n = []

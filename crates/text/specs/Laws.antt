@@ -21,11 +21,13 @@ abbrev pub areDigits : Text → Bool
 areDigits [] = true
 areDigits (c ∷ s) = leb 48 c && leb c 57 && areDigits s
 
--- Read back, the digits stand for the number; they are digits, and the first is 0 for the number 0 only. No other text is like that.
+-- Read back, the characters stand for the number; they are digits, at least one, and the first is 0 only if it is the only one. No other
+-- text is like that.
 pub record Decimal (n : ℕ) : Type 0 where
   pub reads-back : valueAfter 0 (decimal n) ≡ n
   pub digits : T (areDigits (decimal n))
-  pub no-zero-in-front : getD (decimal n) 0 0 ≡ digit 0 → n ≡ 0
+  pub some-digit : 0 < length (decimal n)
+  pub no-zero-in-front : getD (decimal n) 0 0 ≡ digit 0 → decimal n ≡ digit 0 ∷ []
 
 abbrev pub DecimalReadsBack : Type 0
 DecimalReadsBack = (n : ℕ) → Decimal n

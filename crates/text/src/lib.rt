@@ -4,7 +4,7 @@ ghost use mathlib.Core.Path.{_≡_};
 ghost use Prim.Native.Nat.{_+_, _≤_, _<_};
 ghost use mathlib.Core.List.{[], _∷_};
 ghost use lib.ListN.{length};
-ghost use Rattle.text.specs.Decimal.{decimal, field};
+ghost use Rattle.text.specs.Decimal.{twoDigits, decimal, field};
 ghost use Rattle.text.specs.Decimal.{digit as Decimal·digit};
 ghost use Rattle.text.specs.Ending.{endingAt};
 
@@ -44,7 +44,19 @@ pub fn put_word(text: &mut [u8], end: usize, word: &[u8]) -> usize
     at
 }
 
-// Writes a number in decimal.
+// Writes two digits.
+fn put_pair(text: &mut [u8], end: usize, pair: u64) -> usize
+    requires { ⌜ pair < 100 ⌝ }
+    requires fits { ⌜ 2 ≤ end ⌝ }
+    requires { ⌜ end ≤ length (now text) ⌝ }
+    ensures start { λ r. ⌜ r + 2 ≡ end ⌝ }
+    ensures text { λ _. ⌜ now (text .exit) ≡ endingAt end (twoDigits pair) (now (text .entry)) ⌝ }
+{
+    let at = put(text, end, digit(pair % 10));
+    put(text, at, digit(pair / 10))
+}
+
+// Writes a number in decimal, two digits at a time, which is quicker than one.
 fn put_decimal(text: &mut [u8], end: usize, n: u64) -> usize
     requires fits { ⌜ length (decimal n) ≤ end ⌝ }
     requires { ⌜ end ≤ length (now text) ⌝ }
@@ -53,11 +65,14 @@ fn put_decimal(text: &mut [u8], end: usize, n: u64) -> usize
 {
     let mut at = end;
     let mut rest = n;
-    while rest >= 10 {
-        at = put(text, at, digit(rest % 10));
-        rest /= 10;
+    while rest >= 100 {
+        at = put_pair(text, at, rest % 100);
+        rest /= 100;
     }
-    put(text, at, digit(rest))
+    if rest < 10 {
+        return put(text, at, digit(rest));
+    }
+    put_pair(text, at, rest)
 }
 
 // Writes a number in decimal and a character after it.

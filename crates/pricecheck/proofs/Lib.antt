@@ -1,0 +1,2 @@
+-- Laws: how the input is cut does not show.
+pub mod Laws
