@@ -49,10 +49,10 @@ fn has_buy_queue(queues: Queues) -> bool
 {
     match queues {
         Queues::Opening => false,
-        Queues::Both(_bid, _ask) => true,
-        Queues::BuyOnly(_bid) => true,
-        Queues::SellOnly(_ask) => false,
-        Queues::Neither(_last_bid, _last_ask) => false,
+        Queues::Both(_, _) => true,
+        Queues::BuyOnly(_) => true,
+        Queues::SellOnly(_) => false,
+        Queues::Neither(_, _) => false,
     }
 }
 
@@ -61,10 +61,10 @@ fn has_sell_queue(queues: Queues) -> bool
 {
     match queues {
         Queues::Opening => false,
-        Queues::Both(_bid, _ask) => true,
-        Queues::BuyOnly(_bid) => false,
-        Queues::SellOnly(_ask) => true,
-        Queues::Neither(_last_bid, _last_ask) => false,
+        Queues::Both(_, _) => true,
+        Queues::BuyOnly(_) => false,
+        Queues::SellOnly(_) => true,
+        Queues::Neither(_, _) => false,
     }
 }
 
@@ -81,9 +81,9 @@ fn is_locked_or_crossed(queues: Queues) -> bool
     match queues {
         Queues::Opening => false,
         Queues::Both(bid, ask) => !missing::is_below(bid, ask),
-        Queues::BuyOnly(_bid) => false,
-        Queues::SellOnly(_ask) => false,
-        Queues::Neither(_last_bid, _last_ask) => false,
+        Queues::BuyOnly(_) => false,
+        Queues::SellOnly(_) => false,
+        Queues::Neither(_, _) => false,
     }
 }
 
@@ -93,10 +93,10 @@ fn is_quoted_before(queues: Queues, last_bid: Reference, last_ask: Reference) ->
 {
     match queues {
         Queues::Opening => missing::is_present(last_bid) | missing::is_present(last_ask),
-        Queues::Both(_bid, _ask) => false,
-        Queues::BuyOnly(_bid) => false,
-        Queues::SellOnly(_ask) => false,
-        Queues::Neither(_last_bid, _last_ask) => false,
+        Queues::Both(_, _) => false,
+        Queues::BuyOnly(_) => false,
+        Queues::SellOnly(_) => false,
+        Queues::Neither(_, _) => false,
     }
 }
 

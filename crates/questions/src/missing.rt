@@ -20,7 +20,7 @@ pub fn is_present(reference: Reference) -> bool
 {
     match reference {
         Reference::Missing => false,
-        Reference::Price(_price) => true,
+        Reference::Price(_) => true,
     }
 }
 

@@ -53,10 +53,10 @@ pub fn ask_of(queues: Queues) -> Reference
 {
     match queues {
         Queues::Opening => Reference::Missing,
-        Queues::Both(_bid, ask) => ask,
-        Queues::BuyOnly(_bid) => Reference::Missing,
+        Queues::Both(_, ask) => ask,
+        Queues::BuyOnly(_) => Reference::Missing,
         Queues::SellOnly(ask) => ask,
-        Queues::Neither(_last_bid, _last_ask) => Reference::Missing,
+        Queues::Neither(_, _) => Reference::Missing,
     }
 }
 
@@ -66,9 +66,9 @@ pub fn bid_of(queues: Queues) -> Reference
 {
     match queues {
         Queues::Opening => Reference::Missing,
-        Queues::Both(bid, _ask) => bid,
+        Queues::Both(bid, _) => bid,
         Queues::BuyOnly(bid) => bid,
-        Queues::SellOnly(_ask) => Reference::Missing,
-        Queues::Neither(_last_bid, _last_ask) => Reference::Missing,
+        Queues::SellOnly(_) => Reference::Missing,
+        Queues::Neither(_, _) => Reference::Missing,
     }
 }

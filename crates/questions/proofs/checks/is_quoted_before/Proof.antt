@@ -7,16 +7,16 @@ returns : tie.Need-returns
 returns c = rw (c .before .before .enum-told .given .1, c .before .is-present .ensures, c .is-present2 .ensures)
 
 returns-2 : tie.Need-returns-2
-returns-2 c = rw (c .before .queues .given .1)
+returns-2 c = rw (c .enum-told2 .given .1)
 
 returns-3 : tie.Need-returns-3
-returns-3 c = rw (c .before .queues2 .given .1)
+returns-3 c = rw (c .enum-told3 .given .1)
 
 returns-4 : tie.Need-returns-4
-returns-4 c = rw (c .before .queues3 .given .1)
+returns-4 c = rw (c .enum-told4 .given .1)
 
 returns-5 : tie.Need-returns-5
-returns-5 c = rw (c .before .queues4 .given .1)
+returns-5 c = rw (c .enum-told5 .given .1)
 
 pub is-quoted-before-spec : {M : Type 1} → statement M
 is-quoted-before-spec =
