@@ -1,2 +1,5 @@
--- Claim: the worked lines, computed.
+-- Claim: the worked lines, computed. Looking, Answering and Limits are for it alone.
 pub mod Claim
+mod Looking
+mod Answering
+mod Limits
