@@ -36,7 +36,7 @@ pub fn reading_number(reading: Reading) -> u32
     ensures { λ r. ⌜ r ≡ readingNumber reading ⌝ }
 {
     match reading {
-        Reading::Permitted(_range) => 0,
+        Reading::Permitted(_) => 0,
         Reading::Refused(refusal) => refusal_number(refusal),
     }
 }

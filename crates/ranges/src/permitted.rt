@@ -20,10 +20,10 @@ fn buy_reference(queues: Queues, close: Reference, low: Reference) -> Reference
 {
     match queues {
         Queues::Opening => close,
-        Queues::Both(bid, _ask) => bid,
+        Queues::Both(bid, _) => bid,
         Queues::BuyOnly(bid) => bid,
         Queues::SellOnly(ask) => missing::least_of(ask, missing::least_of(close, low)),
-        Queues::Neither(_last_bid, last_ask) => {
+        Queues::Neither(_, last_ask) => {
             if !missing::is_present(close) & !missing::is_present(low) {
                 Reference::Missing
             } else {
@@ -39,10 +39,10 @@ fn sell_reference(queues: Queues, close: Reference, high: Reference) -> Referenc
 {
     match queues {
         Queues::Opening => close,
-        Queues::Both(_bid, ask) => ask,
+        Queues::Both(_, ask) => ask,
         Queues::BuyOnly(bid) => missing::greatest_of(bid, missing::greatest_of(close, high)),
         Queues::SellOnly(ask) => ask,
-        Queues::Neither(last_bid, _last_ask) => {
+        Queues::Neither(last_bid, _) => {
             if !missing::is_present(close) & !missing::is_present(high) {
                 Reference::Missing
             } else {
@@ -133,10 +133,10 @@ fn nine_fold_reference(queues: Queues, close: Reference, nominal: Reference) -> 
 {
     match queues {
         Queues::Opening => close,
-        Queues::Both(_bid, _ask) => nominal,
-        Queues::BuyOnly(_bid) => nominal,
-        Queues::SellOnly(_ask) => nominal,
-        Queues::Neither(_last_bid, _last_ask) => nominal,
+        Queues::Both(_, _) => nominal,
+        Queues::BuyOnly(_) => nominal,
+        Queues::SellOnly(_) => nominal,
+        Queues::Neither(_, _) => nominal,
     }
 }
 
