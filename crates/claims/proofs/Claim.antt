@@ -10,7 +10,7 @@ use Rattle.ladder.proofs.Laws.{the-phase1-table}
 use Rattle.limits.specs.Limits.{fivePercent}
 use Rattle.questions.specs.declared.Reference.{Reference}
 use Rattle.questions.specs.declared.Reference.the-variants.{Missing, Price}
-use Rattle.questions.specs.Rules.{chosen}
+use Rattle.rules.specs.Rules.{chosen}
 use Rattle.questions.specs.Checks.{anyOff, disagree}
 use Rattle.ranges.specs.declared.Range.{Range}
 use Rattle.ranges.specs.declared.Reading.the-variants.{Permitted}

@@ -1,6 +1,5 @@
--- What a question is, which rule its codes choose, and checks 2 to 5. To be read in this order; the notation is explained in
+-- What a question is, and checks 3 to 5 on its references. To be read in this order; the notation is explained in
 -- crates/ladder/specs/Lib.antt.
 pub mod Missing
 pub mod Record
-pub mod Rules
 pub mod Checks

@@ -1,10 +1,9 @@
-// Questions: a question from its bytes, the rule that its codes choose, and the checks on its codes and references.
+// Questions: a question from its bytes, and the checks on its references.
 //
 // Prices are whole mils.
 mod bytes; // bytes.rt: little-endian numbers
 pub mod decoding; // decoding.rt: a question from its bytes
 pub mod missing; // missing.rt: references, each a price or missing
-pub mod rules; // rules.rt: the rule that side, order type and queue code choose
 pub mod checks; // checks.rt: references off the ladder, references that disagree, special orders with no opposite queue
 
 // How many bytes a question has.

@@ -11,7 +11,7 @@ use Rattle.questions.specs.declared.Queues.the-variants.{Opening, Both, BuyOnly
 use Rattle.questions.specs.declared.Rule.{Rule}
 use Rattle.questions.specs.declared.Rule.the-variants.{BuyLimit, BuyEnhanced, BuySpecial, SellLimit, SellEnhanced, SellSpecial}
 use Rattle.questions.specs.Missing.{present, least, greatest, priceOr}
-use Rattle.questions.specs.Rules.{askOf, bidOf}
+use Rattle.rules.specs.Rules.{askOf, bidOf}
 use Rattle.ranges.specs.declared.Range.{Range}
 use Rattle.ranges.specs.Bounds.{Low, High, nineSpreadsAbove, nineSpreadsBelow, bottom, top}
 

@@ -9,7 +9,7 @@ use Rattle.questions.specs.declared.Queues.{Queues}
 use Rattle.questions.specs.declared.Rule.{Rule}
 use Rattle.questions.specs.declared.Choice.{Choice}
 use Rattle.questions.specs.declared.Choice.the-variants.{Chosen, Unknown}
-use Rattle.questions.specs.Rules.{chosen}
+use Rattle.rules.specs.Rules.{chosen}
 use Rattle.questions.specs.Checks.{anyOff, disagree, unopposed}
 use Rattle.ranges.specs.declared.Refusal.the-variants.{UnknownCode, OffLadder, Disagreement, NoOpposite}
 use Rattle.ranges.specs.declared.Reading.{Reading}

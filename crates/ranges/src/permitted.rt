@@ -8,7 +8,6 @@ use questions::Reference;
 use questions::References;
 use questions::Rule;
 use questions::missing;
-use questions::rules;
 ghost use mathlib.Core.Path.{_≡_};
 ghost use lib.Dec.{T};
 ghost use Rattle.ladder.specs.Layout.{isTable, pricesOf};

@@ -7,7 +7,6 @@ use questions::Choice;
 use questions::Codes;
 use questions::References;
 use questions::checks;
-use questions::rules;
 ghost use mathlib.Core.Path.{_≡_};
 ghost use lib.Dec.{T};
 ghost use Rattle.ladder.specs.Layout.{isTable, pricesOf};

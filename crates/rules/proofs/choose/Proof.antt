@@ -1,12 +1,12 @@
 -- Arm by arm: what is known of each number.
 use mathlib.Core.Path.{refl}
 use mathlib.Core.Logic.{⊎-elim}
-use Rattle.questions.proofs.Choosing.{no-side, no-type, no-queue, Known, known-queue, unknown-side, unknown-type, unknown-queue}
-use Rattle.questions.proofs.Choosing.{byte-not-zero, all-known}
-use Rattle.questions.proofs.rules.choose.Statement.{statement}
-use Rattle.questions.proofs.rules.choose.Tie as tie
-use Rattle.questions.proofs.rules.choose.Reads as reads
-use Rattle.questions.proofs.rules.choose.Lts as lts
+use Rattle.rules.proofs.Choosing.{no-side, no-type, no-queue, Known, known-queue, unknown-side, unknown-type, unknown-queue}
+use Rattle.rules.proofs.Choosing.{byte-not-zero, all-known}
+use Rattle.rules.proofs.choose.Statement.{statement}
+use Rattle.rules.proofs.choose.Tie as tie
+use Rattle.rules.proofs.choose.Reads as reads
+use Rattle.rules.proofs.choose.Lts as lts
 
 returns : tie.Need-returns
 returns c = byte-not-zero _ _ (c .if1 .taken)

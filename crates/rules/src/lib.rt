@@ -1,12 +1,12 @@
-// The side, order type and queue code together choose the rule.
-use super::Choice;
-use super::Codes;
-use super::Queues;
-use super::Reference;
-use super::References;
-use super::Rule;
+// The rule that the side, order type and queue code of a question choose together.
+use questions::Choice;
+use questions::Codes;
+use questions::Queues;
+use questions::Reference;
+use questions::References;
+use questions::Rule;
 ghost use mathlib.Core.Path.{_≡_};
-ghost use Rattle.questions.specs.Rules.{chosen, askOf, bidOf};
+ghost use Rattle.rules.specs.Rules.{chosen, askOf, bidOf};
 
 // The rule and the queues that the codes choose.
 pub fn choose(codes: Codes, references: References) -> Choice

@@ -3,11 +3,11 @@ use mathlib.Core.Path.{_≡_}
 use Prim.Native.Nat.{ℕ}
 use mathlib.Core.Bool.{true, false, or-true}
 use borrow.Author.Tests.{eq-eqb, ne-eqb}
 use Rattle.questions.specs.declared.Codes.{Codes}
 use Rattle.questions.specs.declared.References.{References}
 use Rattle.questions.specs.declared.Queues.{Queues}
 use Rattle.questions.specs.declared.Choice.the-variants.{Chosen, Unknown}
-use Rattle.questions.specs.Rules.{knownSide, knownType, knownQueue, ruleOf, queuesOf, chosen}
+use Rattle.rules.specs.Rules.{knownSide, knownType, knownQueue, ruleOf, queuesOf, chosen}
 
 -- a number that is none of the known ones
 pub no-side : (n : ℕ) → (n ≡ 1 → ⊥) → (n ≡ 2 → ⊥) → knownSide n ≡ false
