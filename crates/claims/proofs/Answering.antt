@@ -20,7 +20,7 @@ use Rattle.judging.specs.Shown.{shownOf}
 use Rattle.judging.specs.Verdicts.{belowLowest, aboveHighest, failsNineFold, verdictOf}
 use Rattle.judging.specs.Numbers.{verdictNumber}
 use Rattle.judging.specs.Answers.{answerBy}
-use Rattle.claims.specs.Worked.{prices, At, Line, order, answers, right}
+use Rattle.claims.specs.Worked.{prices, At, order, answers, right}
 
 -- the verdict on a price, by the bands
 unfoldable pub verdictBy : Range → ℕ → Verdict

@@ -1,5 +1,5 @@
 -- Looking into the Phase 1 ladder by its laws: a limit from four prices of the list, not from 24 walks through it.
-use mathlib.Core.Path.{_≡_, sym, _∙_}
+use mathlib.Core.Path.{_≡_, _∙_}
 use Prim.Native.Nat.{ℕ, _+_, _-_, _*_, min, max}
 use mathlib.Core.Bool.{true}
 use lib.Dec.{T}

@@ -1,16 +1,15 @@
 -- The laws of specs/Laws.antt, proved.
 use mathlib.Core.Path.{_≡_, refl, sym, _∙_, ap}
-use Prim.Native.Nat.{ℕ, zero, suc, _+_, _*_, _/_, _%_, _≤_, _<_}
+use Prim.Native.Nat.{ℕ, zero, suc, _+_, _*_, _/_, _%_, _≤_}
 use native.Mathlib.Nat.{add-zero, add-suc, add-assoc}
 use native.Mathlib.Omega.{arith}
-use mathlib.Core.List.{List, [], _++_, append-assoc, append-nil}
+use mathlib.Core.List.{List, _++_, append-assoc, append-nil}
 use lib.ListN.{length, take, drop, length-append, length-drop}
 use lib.Seq.{take-append-le, drop-append-le, drop-append-add}
-use Rattle.text.specs.Decimal.{Text}
 use Rattle.limits.specs.declared.Percentage.{Percentage}
 use Rattle.questions.specs.Record.{questionBytes, countOf, questionAt}
 use Rattle.judging.specs.Answers.{judged}
-use Rattle.pages.specs.Lines.{line, linesTo, leftLine, page}
+use Rattle.pages.specs.Lines.{line, linesTo, leftLine}
 use Rattle.pages.specs.Laws.{PagesJoin, EmptyPage, PageLaws}
 
 -- ---- pages join

@@ -3,7 +3,6 @@ use mathlib.Core.Path.{_≡_}
 use Prim.Native.Nat.{ℕ, _+_, _%_}
 use mathlib.Core.List.{[], _++_}
 use lib.ListN.{length}
-use Rattle.text.specs.Decimal.{Text}
 use Rattle.ladder.specs.Ladder.{Prices}
 use Rattle.limits.specs.declared.Percentage.{Percentage}
 use Rattle.questions.specs.Record.{Bytes, questionBytes, countOf}

@@ -1,6 +1,6 @@
 -- The law of specs/Laws.antt, proved.
-use mathlib.Core.Path.{_≡_, refl, sym, _∙_, ap}
-use Prim.Native.Nat.{ℕ, suc, _+_, _%_}
+use mathlib.Core.Path.{_≡_, sym, _∙_, ap}
+use Prim.Native.Nat.{ℕ, suc, _+_}
 use native.Mathlib.Nat.{add-zero, zero-add}
 use native.Mathlib.Omega.{arith}
 use mathlib.Core.List.{List, [], _∷_, _++_, append-assoc}
@@ -10,7 +10,7 @@ use Rattle.ladder.specs.Bands.{phase1}
 use Rattle.ladder.specs.Ladder.{ladder}
 use Rattle.ladder.proofs.Lists.Truth.{and-left, and-right}
 use Rattle.limits.specs.Limits.{fivePercent}
-use Rattle.questions.specs.Record.{Bytes, questionBytes, countOf}
+use Rattle.questions.specs.Record.{Bytes, countOf}
 use Rattle.pages.proofs.Laws.{pages-join}
 use Rattle.pricecheck.specs.Run.{pageFrom, pieceBytes, firstOf}
 use Rattle.pricecheck.specs.Laws.{joined, allFull, pagesFrom, PiecesJoin}

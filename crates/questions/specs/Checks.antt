@@ -1,5 +1,4 @@
 -- Why a question comes back before its price is looked at, by who can cause it. Check 2, the calling program's, is unknownCode of Rules.
-use Prim.Native.Nat.{ℕ}
 use mathlib.Core.Bool.{Bool, true, false, not, cond, _||_}
 use Rattle.ladder.specs.Ladder.{Prices}
 use Rattle.ladder.specs.Search.{holds}

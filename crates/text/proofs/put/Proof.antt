@@ -1,7 +1,7 @@
 -- A store is the character between what stands before it and after it.
 use borrow.Author.Needs.{needs}
 use mathlib.Core.Path.{_≡_, _∙_, ap}
-use Prim.Native.Nat.{ℕ, suc, _-_}
+use Prim.Native.Nat.{suc, _-_}
 use native.Mathlib.Omega.{arith}
 use mathlib.Core.List.{_∷_, _++_}
 use lib.ListN.{take, drop}

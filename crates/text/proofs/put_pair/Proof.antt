@@ -1,7 +1,6 @@
 -- The second digit first, then the first one before it.
 use borrow.Author.Needs.{needs}
 use mathlib.Core.Path.{refl}
-use native.Mathlib.Omega.{arith}
 use mathlib.Core.List.{[], _∷_}
 use Prim.Native.Nat.{_/_, _%_}
 use Rattle.text.specs.Decimal.{digit, twoDigits}

@@ -1,7 +1,6 @@
 -- The characters from the last to the first: what is not yet written is the word up to there.
-use borrow.Author.Needs.{needs}
 use mathlib.Core.Path.{_≡_, refl, sym, _∙_, ap}
-use Prim.Native.Nat.{ℕ, _≤_, _-_, suc, zero}
+use Prim.Native.Nat.{ℕ, _≤_, _-_, suc}
 use native.Mathlib.Omega.{arith}
 use mathlib.Core.List.{List, [], _∷_, _++_}
 use lib.ListN.{length, take, getD}

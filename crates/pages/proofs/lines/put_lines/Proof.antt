@@ -1,10 +1,9 @@
 -- One line a turn, each before those after it.
 use borrow.Author.Needs.{needs}
-use mathlib.Core.Path.{_≡_, refl, sym, _∙_, ap}
+use mathlib.Core.Path.{_≡_, _∙_, ap}
 use Prim.Native.Nat.{ℕ, suc, _+_, _-_, _*_, _≤_}
-use native.Mathlib.Numerals.{add-one}
 use native.Mathlib.Omega.{arith}
-use mathlib.Core.List.{List, [], _++_}
+use mathlib.Core.List.{List, _++_}
 use lib.ListN.{length}
 use Rattle.text.proofs.Filling.{Filled, begun, further, ended, same-length}
 use Rattle.ladder.specs.Layout.{pricesOf}

@@ -1,16 +1,16 @@
 -- The line of what is left over first, then the lines before it.
 use borrow.Author.Needs.{needs}
 use mathlib.Core.Path.{_≡_, refl, sym, _∙_, ap}
-use Prim.Native.Nat.{ℕ, _+_, _-_, _*_, _%_, _≤_, _<_}
+use Prim.Native.Nat.{_+_, _-_, _*_, _≤_}
 use native.Mathlib.Omega.{arith}
 use mathlib.Core.Bool.{false}
-use mathlib.Core.List.{List, [], _++_}
-use lib.ListN.{length, length-append}
+use mathlib.Core.List.{[]}
+use lib.ListN.{length}
 use Rattle.text.proofs.Filling.{Filled, begun, further, ended, same-length}
 use Rattle.ladder.specs.Layout.{pricesOf}
-use Rattle.questions.specs.Record.{questionBytes, countOf}
+use Rattle.questions.specs.Record.{countOf}
 use Rattle.pages.specs.declared.Page.the-variants.{From}
-use Rattle.pages.specs.Lines.{linesTo, leftLine, page}
+use Rattle.pages.specs.Lines.{linesTo, page}
 use Rattle.pages.specs.Pages.{lineRoom, leftRoom, pageRefused}
 use Rattle.pages.proofs.Rooms.{fitting, numbered}
 use Rattle.pages.proofs.lines.write.Statement.{statement}
