@@ -8,7 +8,9 @@
  * proved. All may be called from several threads at once.
  *
  * A price is a whole number of mils (0.001 of the currency unit). The spread
- * table is that of Phase 1, the percentage is 5.
+ * table is that of Phase 1, the percentage is 5. That is right for all
+ * securities but exchange traded products, exchange traded options, structured
+ * products and debt, in the Continuous Trading Session.
  *
  * What stays with the caller, as everywhere in C:
  *   - a pointer has as many bytes behind it as the length beside it says;
