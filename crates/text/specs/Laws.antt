@@ -21,8 +21,7 @@ abbrev pub areDigits : Text → Bool
 areDigits [] = true
 areDigits (c ∷ s) = leb 48 c && leb c 57 && areDigits s
 
--- Read back, the characters stand for the number; they are digits, at least one, and the first is 0 only if it is the only one. No other
--- text is like that.
+-- Read back, the characters stand for the number; they are digits, at least one, and the first is 0 only if it is the only one.
 pub record Decimal (n : ℕ) : Type 0 where
   pub reads-back : valueAfter 0 (decimal n) ≡ n
   pub digits : T (areDigits (decimal n))

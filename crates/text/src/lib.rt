@@ -17,7 +17,7 @@ fn digit(d: u64) -> u8
 }
 
 // Writes one character.
-pub fn put(text: &mut [u8], end: usize, character: u8) -> usize
+fn put(text: &mut [u8], end: usize, character: u8) -> usize
     requires fits { ⌜ 1 ≤ end ⌝ }
     requires { ⌜ end ≤ length (now text) ⌝ }
     ensures start { λ r. ⌜ r + 1 ≡ end ⌝ }
