@@ -22,6 +22,11 @@ unfoldable pub bandsBelow : ℕ → ℕ → Table → ℕ
 bandsBelow scale y [] = 0
 bandsBelow scale y (b ∷ bs) = let rest = suc (bandsBelow scale y bs) in cond (ltb (scale * b .top) y) rest 0
 
+-- how many bands of a table end below y, all of them looked at
+unfoldable pub countBelow : ℕ → ℕ → Table → ℕ
+countBelow scale y [] = 0
+countBelow scale y (b ∷ bs) = cond (ltb (scale * b .top) y) 1 0 + countBelow scale y bs
+
 -- the band of a ladder price
 abbrev pub standingOf : ℕ → Table → Standing
 standingOf p t = cond (holds p (ladder t)) (In (bandsBelow 1 p t)) OffLadder

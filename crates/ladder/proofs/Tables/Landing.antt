@@ -1,7 +1,7 @@
 -- Where a threshold lands: the search for its band, band by band, and what holds of the band found.
 use mathlib.Core.Path.{_≡_, refl, sym, _∙_}
-use Prim.Native.Nat.{ℕ, suc, _*_, _≤_, _<_}
-use native.Mathlib.Nat.{not-suc-le-zero, le-of-suc-le-suc}
+use Prim.Native.Nat.{ℕ, zero, suc, _+_, _*_, _≤_, _<_}
+use native.Mathlib.Nat.{not-suc-le-zero, le-of-suc-le-suc, mul-le-mul-left}
 use native.Mathlib.Omega.{arith}
 use mathlib.Core.Bool.{Bool, true, false, cond}
 use mathlib.Core.Logic.{_⊎_, inl, inr, ⊎-elim}
@@ -14,7 +14,7 @@ use Rattle.ladder.specs.declared.Band.{Band}
 use Rattle.ladder.specs.Bands.{noBand}
 use Rattle.ladder.specs.Ladder.{bandPrices}
 use Rattle.ladder.specs.Places.{lastAfter}
-use Rattle.ladder.specs.Arithmetic.{bandsBelow}
+use Rattle.ladder.specs.Arithmetic.{bandsBelow, countBelow}
 use Rattle.ladder.proofs.Tables.Chain.{Chain, bandAt, last-top}
 
 -- ---- the search, band by band
@@ -28,9 +28,56 @@ module _ (scale y : ℕ) (t : List Band) (k : ℕ) where
   unfolding bandsBelow
   goes-on h e = rw (drop-cons t k noBand h, lt-ltb (scale * bandAt t k .top) y e)
 
-  pub ends : length t ≤ k → bandsBelow scale y (drop k t) ≡ 0
-  unfolding bandsBelow
-  ends h = rw (drop-of-length-le t h)
+-- no more bands end below than there are
+pub no-more : (scale y : ℕ) (t : List Band) → bandsBelow scale y t ≤ length t
+unfolding bandsBelow
+no-more scale y [] = omega arith
+no-more scale y (b ∷ bs) = go (ltb (scale * b .top) y) (no-more scale y bs)
+  where
+    go : (v : Bool) → bandsBelow scale y bs ≤ length bs → cond v (suc (bandsBelow scale y bs)) 0 ≤ suc (length bs)
+    go true h = omega (arith, h)
+    go false h = omega arith
+
+-- ---- all bands counted
+
+module _ (scale y : ℕ) (t : List Band) (k : ℕ) where
+  pub counted : k < length t → scale * bandAt t k .top < y → countBelow scale y (drop k t) ≡ suc (countBelow scale y (drop (suc k) t))
+  unfolding countBelow
+  counted h e = rw (drop-cons t k noBand h, lt-ltb (scale * bandAt t k .top) y e) (omega arith)
+
+  pub not-counted : k < length t → y ≤ scale * bandAt t k .top → countBelow scale y (drop k t) ≡ countBelow scale y (drop (suc k) t)
+  unfolding countBelow
+  not-counted h e = rw (drop-cons t k noBand h, le-ltb (scale * bandAt t k .top) y e) (omega arith)
+
+  pub all-seen : length t ≤ k → countBelow scale y (drop k t) ≡ 0
+  unfolding countBelow
+  all-seen h = rw (drop-of-length-le t h)
+
+-- of bands that start at y or above it none ends below it
+none-counted : (scale y a : ℕ) (t : List Band) → Chain a t → y ≤ scale * a → countBelow scale y t ≡ 0
+unfolding countBelow
+none-counted scale y a [] c h = refl
+none-counted scale y a (b ∷ bs) c h =
+    let rises : a ≤ b .top = omega (arith, c .0, c .1 .rises) in
+    let over : y ≤ scale * b .top = omega (arith, h, mul-le-mul-left scale rises) in
+    rw (le-ltb (scale * b .top) y over) (omega (arith, none-counted scale y (b .top) bs (c .2) over))
+
+-- the bands of a table rise, so that those that end below y come first
+pub counts-all : (scale y a : ℕ) (t : List Band) → Chain a t → countBelow scale y t ≡ bandsBelow scale y t
+unfolding countBelow bandsBelow
+counts-all scale y a [] c = refl
+counts-all scale y a (b ∷ bs) c = go (ltb (scale * b .top) y) refl (counts-all scale y (b .top) bs (c .2))
+  where
+    go : (v : Bool) → ltb (scale * b .top) y ≡ v → countBelow scale y bs ≡ bandsBelow scale y bs →
+        cond v 1 0 + countBelow scale y bs ≡ cond v (suc (bandsBelow scale y bs)) 0
+    go true e rest = omega (arith, rest)
+    go false e rest = omega (arith, none-counted scale y (b .top) bs (c .2) (ltb-false (scale * b .top) y e))
+
+-- the bands from an index on are chained too
+pub rest-chained : (k a : ℕ) (t : List Band) → Chain a t → (b : ℕ) × Chain b (drop k t)
+rest-chained zero a t c = (a, c)
+rest-chained (suc k) a [] c = (a, tt)
+rest-chained (suc k) a (b ∷ bs) c = rest-chained k (b .top) bs (c .2)
 
 -- ---- the band found
 
