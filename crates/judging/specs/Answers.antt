@@ -11,6 +11,7 @@ use Rattle.ranges.specs.declared.Reading.{Reading}
 use Rattle.ranges.specs.declared.Reading.the-variants.{Permitted, Refused}
 use Rattle.ranges.specs.Readings.{readingOf}
 use Rattle.judging.specs.declared.Answer.{Answer}
+use Rattle.judging.specs.declared.Shown.{Shown}
 use Rattle.judging.specs.Shown.{shownOf}
 use Rattle.judging.specs.Verdicts.{verdictOf}
 use Rattle.judging.specs.Numbers.{wrongLength, refusalNumber, verdictNumber}
@@ -20,9 +21,11 @@ abbrev pub noneShown : ℕ → Answer
 noneShown n = record { number = n; lowest = 0; highest = 0 }
 
 -- "Answers 0 and 6 to 10 show the range."
+abbrev pub answerWith : ℕ → Shown → Answer
+answerWith n shown = record { number = n; lowest = shown .lowest; highest = shown .highest }
+
 abbrev pub answerOn : Prices → Range → ℕ → Answer
-answerOn l range p =
-    record { number = verdictNumber (verdictOf l range p); lowest = shownOf l range .lowest; highest = shownOf l range .highest }
+answerOn l range p = answerWith (verdictNumber (verdictOf l range p)) (shownOf l range)
 
 -- the answer to a price, by the reading of its question
 abbrev pub answerBy : Prices → Reading → ℕ → Answer

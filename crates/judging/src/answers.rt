@@ -1,5 +1,6 @@
 // The numbers of readings and verdicts, and the answers.
 use super::Answer;
+use super::Shown;
 use super::Verdict;
 use super::showing;
 use super::verdicts;
@@ -13,8 +14,10 @@ use ranges::readings;
 ghost use mathlib.Core.Path.{_≡_};
 ghost use lib.Dec.{T};
 ghost use Rattle.ladder.specs.Layout.{isTable, pricesOf};
+ghost use Rattle.ladder.specs.Search.{holds};
+ghost use Rattle.judging.specs.Verdicts.{verdictOf};
 ghost use Rattle.judging.specs.Numbers.{refusalNumber, readingNumber, verdictNumber};
-ghost use Rattle.judging.specs.Answers.{noneShown, answerOn, judged};
+ghost use Rattle.judging.specs.Answers.{noneShown, answerWith, answerOn, judged};
 
 // The answer number for bytes that are no question.
 const WRONG_LENGTH: u32 = 1;
@@ -66,18 +69,43 @@ pub fn none_shown(number: u32) -> Answer
     }
 }
 
-// The answer to a price against a range.
-pub fn answer_on(table: &[u32], range: Range, price: u32) -> Answer
+// The number of the verdict on a price against a range.
+fn number_on(table: &[u32], range: Range, price: u32) -> u32
     requires { ⌜ T (isTable (now table)) ⌝ }
-    ensures { λ r. ⌜ r ≡ answerOn (pricesOf (now (table .entry))) range price ⌝ }
+    ensures { λ r. ⌜ r ≡ verdictNumber (verdictOf (pricesOf (now (table .entry))) range price) ⌝ }
 {
-    let number = verdict_number(verdicts::verdict_on(table, range, price));
-    let shown = showing::shown_of(table, range);
+    verdict_number(verdicts::verdict_on(table, range, price))
+}
+
+// An answer with a range.
+fn answer(number: u32, shown: Shown) -> Answer
+    ensures { λ r. ⌜ r ≡ answerWith number shown ⌝ }
+{
     Answer {
         number,
         lowest: shown.lowest,
         highest: shown.highest,
     }
+}
+
+// The answer to a price against any range.
+pub fn answer_on(table: &[u32], range: Range, price: u32) -> Answer
+    requires { ⌜ T (isTable (now table)) ⌝ }
+    ensures { λ r. ⌜ r ≡ answerOn (pricesOf (now (table .entry))) range price ⌝ }
+{
+    let number = number_on(table, range, price);
+    answer(number, showing::shown_of(table, range))
+}
+
+// The same against the range of a reading, whose bounds are ladder prices.
+fn answer_permitted(table: &[u32], range: Range, price: u32) -> Answer
+    requires { ⌜ T (isTable (now table)) ⌝ }
+    requires lowest { ⌜ T (holds (range .lowest) (pricesOf (now table))) ⌝ }
+    requires highest { ⌜ T (holds (range .highest) (pricesOf (now table))) ⌝ }
+    ensures { λ r. ⌜ r ≡ answerOn (pricesOf (now (table .entry))) range price ⌝ }
+{
+    let number = number_on(table, range, price);
+    answer(number, showing::shown_of_permitted(table, range))
 }
 
 // The answer to a question as bytes.
@@ -95,5 +123,5 @@ pub fn judge(table: &[u32], percentage: Percentage, question: &[u8]) -> Answer
     let Reading::Permitted(range) = reading else {
         return none_shown(reading_number(reading));
     };
-    answer_on(table, range, asked.price)
+    answer_permitted(table, range, asked.price)
 }

@@ -17,6 +17,7 @@ use Rattle.ranges.specs.declared.Range.{Range}
 use Rattle.ranges.specs.declared.Reading.the-variants.{Permitted, Refused}
 use Rattle.ranges.specs.declared.Refusal.the-variants.{OffLadder, Disagreement}
 use Rattle.ranges.specs.Bounds.{Low, High}
+use Rattle.ranges.proofs.OnLadder.{on, least-on, greatest-on, price-on, low-on, high-on}
 use Rattle.judging.specs.declared.Verdict.the-variants.{Accepted, OutsideLadder, BelowLowest, AboveHighest}
 use Rattle.judging.specs.Verdicts.{outside, belowLowest, aboveHighest}
 use Rattle.judging.specs.Numbers.{verdictNumber}
@@ -24,7 +25,7 @@ use Rattle.judging.proofs.Acceptance.{below}
 use Rattle.trades.specs.declared.TradeReferences.{TradeReferences}
 use Rattle.trades.specs.Trades.{anyTradeOff, tradeDisagrees, tradeRange, tradeReading, tradeVerdict, tradeBy, tradeJudged}
 use Rattle.trades.specs.Laws.{isTradeRefusal, Numbers, TradeNumbers, FromTo, TradeRange, TradeLaws}
-use Rattle.trades.proofs.Pairs.{paired, range-rises, on, least-on, greatest-on, price-on, low-on, high-on, limits-paired}
+use Rattle.trades.proofs.Pairs.{paired, range-rises, limits-paired}
 
 -- a trade with a range gets 0, 6, 8 or 9
 priced : (l : Prices) (range : Range) (p : ℕ) → Numbers (tradeBy l (Permitted range) p)

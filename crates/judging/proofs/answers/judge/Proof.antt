@@ -1,6 +1,10 @@
 -- By the number of bytes, then by the reading.
-use mathlib.Core.Path.{ap, _∙_}
+use mathlib.Core.Path.{ap, sym, _∙_}
+use denote.Ref.{now}
 use borrow.Author.Needs.{needs}
+use Rattle.ladder.specs.Layout.{bandsOf}
+use Rattle.ladder.proofs.Laws.{listed}
+use Rattle.ranges.proofs.Laws.{bounds-on-ladder}
 use Rattle.judging.specs.Numbers.{readingNumber}
 use Rattle.judging.specs.Answers.{noneShown, judged}
 use Rattle.judging.proofs.answers.judge.Statement.{statement}
@@ -27,10 +31,18 @@ returns-3 c =
       c .before .before .before .before .before .before .before .before .decoded .given .1,
       ← (c .before .before .before .before .reading-of .ensures),
       c .before .before .reading .given .1,
-    ) (c .answer-on .ensures)
+    ) (c .answer-permitted .ensures)
+
+answer-permitted-requires : tie.Need-answer-permitted-requires
+answer-permitted-requires c κs =
+    let s = c .before .before .before .before .before .before .before .before .before .before .before .before in
+    let t = bandsOf (now (s .args .table)) in
+    let permitted = sym (c .before .before .before .reading-of .ensures) ∙ c .before .reading .given .1 in
+    let ends = bounds-on-ladder t (s .pre) (s .args .percentage) _ _ _ permitted in
+    (s .pre, (listed t (s .pre) _ (ends .lowest-on), listed t (s .pre) _ (ends .highest-on)))
 
 pub judge-spec : {M : Type 1} → statement M
 judge-spec =
     tie.close
     (tie.spec (λ c κs. search needs) (λ c. search needs) (λ c. search needs) (λ c κs. search needs) returns (λ c κs. search needs)
-    (λ c. search needs) (λ c. search needs) (λ c κs. search needs) (λ c κs. search needs) returns-2 (λ c κs. search needs) returns-3)
+    (λ c. search needs) (λ c. search needs) (λ c κs. search needs) (λ c κs. search needs) returns-2 answer-permitted-requires returns-3)

@@ -1,0 +1,191 @@
+-- The law of specs/Laws.antt, proved.
+use mathlib.Core.Path.{_≡_, refl, ap}
+use Prim.Native.Nat.{ℕ}
+use mathlib.Core.Bool.{Bool, true, false, not, cond, _&&_}
+use lib.Dec.{T, eqb}
+use Rattle.ladder.specs.Bands.{Table, wellFormed}
+use Rattle.ladder.specs.Ladder.{ladder, isLadderPrice}
+use Rattle.ladder.proofs.Lists.Truth.{or-false, zero-is-one}
+use Rattle.ladder.proofs.Laws.{ends-are-the-tables}
+use Rattle.limits.specs.declared.Percentage.{Percentage}
+use Rattle.questions.specs.declared.Reference.{Reference}
+use Rattle.questions.specs.declared.Reference.the-variants.{Missing}
+use Rattle.questions.specs.declared.References.{References}
+use Rattle.questions.specs.declared.Queues.{Queues}
+use Rattle.questions.specs.declared.Queues.the-variants.{Opening, Both, BuyOnly, SellOnly, Neither}
+use Rattle.questions.specs.declared.Rule.{Rule}
+use Rattle.questions.specs.declared.Rule.the-variants.{BuyLimit, BuyEnhanced, BuySpecial, SellLimit, SellEnhanced, SellSpecial}
+use Rattle.questions.specs.declared.Choice.the-variants.{Chosen, Unknown}
+use Rattle.questions.specs.Missing.{present, priceOr}
+use Rattle.questions.specs.Checks.{isOff, anyOff, disagree, unopposed}
+use Rattle.rules.specs.Rules.{unknownCode, ruleOf, queuesOf, chosen, askOf, bidOf}
+use Rattle.ranges.specs.declared.Range.{Range}
+use Rattle.ranges.specs.declared.Refusal.{Refusal}
+use Rattle.ranges.specs.declared.Refusal.the-variants.{OffLadder, Disagreement, NoOpposite}
+use Rattle.ranges.specs.declared.Reading.{Reading}
+use Rattle.ranges.specs.declared.Reading.the-variants.{Permitted, Refused}
+use Rattle.ranges.specs.Bounds.{bottom, top}
+use Rattle.ranges.specs.Permitted.{buyReference, sellReference, lowestOf, highestOf, rangeOf}
+use Rattle.ranges.specs.Readings.{readingBy, readingOn, readingOf}
+use Rattle.ranges.specs.Laws.{EndsOnLadder, BoundsOnLadder}
+use Rattle.ranges.proofs.OnLadder.{On, on, least-on, greatest-on, price-on, above-on, below-on, low-on, high-on}
+
+module _ (t : Table) (wf : T (wellFormed t)) where
+  -- the references that rules look at are on the ladder, or missing
+  record AllOn (r : References) : Type 0 where
+    current-bid : On t wf (r .«current_bid»)
+    current-ask : On t wf (r .«current_ask»)
+    last-bid : On t wf (r .«last_bid»)
+    last-ask : On t wf (r .«last_ask»)
+    previous-close : On t wf (r .«previous_close»)
+    day-low : On t wf (r .«day_low»)
+    day-high : On t wf (r .«day_high»)
+
+  all-on : (r : References) → anyOff (ladder t) r ≡ false → AllOn r
+  unfolding anyOff
+  all-on r off =
+      let a = or-false _ (isOff (ladder t) (r .nominal)) off in
+      let b = or-false _ (isOff (ladder t) (r .«day_high»)) (a .0) in
+      let c = or-false _ (isOff (ladder t) (r .«day_low»)) (b .0) in
+      let d = or-false _ (isOff (ladder t) (r .«previous_close»)) (c .0) in
+      let e = or-false _ (isOff (ladder t) (r .«last_ask»)) (d .0) in
+      let f = or-false _ (isOff (ladder t) (r .«last_bid»)) (e .0) in
+      let g = or-false (isOff (ladder t) (r .«current_bid»)) (isOff (ladder t) (r .«current_ask»)) (f .0) in
+      record {
+        current-bid = on t wf _ (g .0);
+        current-ask = on t wf _ (g .1);
+        last-bid = on t wf _ (f .1);
+        last-ask = on t wf _ (e .1);
+        previous-close = on t wf _ (d .1);
+        day-low = on t wf _ (c .1);
+        day-high = on t wf _ (b .1);
+      }
+
+  -- what is missing is not off it
+  none-on : On t wf Missing
+  unfolding On
+  none-on = tt
+
+  -- so are those that the queues hold
+  QueuesOn : Queues → Type 0
+  QueuesOn Opening = Unit {0}
+  QueuesOn (Both bid ask) = On t wf bid × On t wf ask
+  QueuesOn (BuyOnly bid) = On t wf bid
+  QueuesOn (SellOnly ask) = On t wf ask
+  QueuesOn (Neither bid ask) = On t wf bid × On t wf ask
+
+  queues-on : (code : ℕ) (r : References) → AllOn r → QueuesOn (queuesOf code r)
+  unfolding QueuesOn
+  queues-on code r h = go (eqb code 1) (eqb code 2) (eqb code 3) (eqb code 4)
+    where
+      go : (a b c d : Bool) →
+          QueuesOn
+          (cond a Opening
+          (cond b (Both (r .«current_bid») (r .«current_ask»))
+          (cond c (BuyOnly (r .«current_bid»))
+          (cond d (SellOnly (r .«current_ask»))
+          (Neither (r .«last_bid») (r .«last_ask»))))))
+      go true b c d = tt
+      go false true c d = (h .current-bid, h .current-ask)
+      go false false true d = h .current-bid
+      go false false false true = h .current-ask
+      go false false false false = (h .last-bid, h .last-ask)
+
+  bid-on : (q : Queues) → QueuesOn q → On t wf (bidOf q)
+  unfolding QueuesOn
+  bid-on Opening h = none-on
+  bid-on (Both bid ask) h = h .0
+  bid-on (BuyOnly bid) h = h
+  bid-on (SellOnly ask) h = none-on
+  bid-on (Neither bid ask) h = none-on
+
+  ask-on : (q : Queues) → QueuesOn q → On t wf (askOf q)
+  unfolding QueuesOn
+  ask-on Opening h = none-on
+  ask-on (Both bid ask) h = h .1
+  ask-on (BuyOnly bid) h = none-on
+  ask-on (SellOnly ask) h = h
+  ask-on (Neither bid ask) h = none-on
+
+  -- a reference, or none
+  none-or : (v : Bool) (r : Reference) → On t wf r → On t wf (cond v Missing r)
+  none-or true r h = none-on
+  none-or false r h = h
+
+  buy-on : (q : Queues) (close low : Reference) → QueuesOn q → On t wf close → On t wf low → On t wf (buyReference q close low)
+  unfolding QueuesOn
+  buy-on Opening close low h k m = k
+  buy-on (Both bid ask) close low h k m = h .0
+  buy-on (BuyOnly bid) close low h k m = h
+  buy-on (SellOnly ask) close low h k m = least-on t wf _ _ h (least-on t wf _ _ k m)
+  buy-on (Neither bid ask) close low h k m = none-or (not (present close) && not (present low)) _ (least-on t wf _ _ (h .1) (least-on t wf _ _ k m))
+
+  sell-on : (q : Queues) (close high : Reference) → QueuesOn q → On t wf close → On t wf high → On t wf (sellReference q close high)
+  unfolding QueuesOn
+  sell-on Opening close high h k m = k
+  sell-on (Both bid ask) close high h k m = h .1
+  sell-on (SellOnly ask) close high h k m = h
+  sell-on (BuyOnly bid) close high h k m = greatest-on t wf _ _ h (greatest-on t wf _ _ k m)
+  sell-on (Neither bid ask) close high h k m = none-or (not (present close) && not (present high)) _ (greatest-on t wf _ _ (h .0) (greatest-on t wf _ _ k m))
+
+  module _ (percent : Percentage) (q : Queues) (r : References) (queues : QueuesOn q) (all : AllOn r) where
+    -- a bound, or the end of the ladder
+    or-bottom : (x : Reference) → On t wf x → T (isLadderPrice (priceOr (bottom (ladder t)) x) t)
+    or-bottom x h = price-on t wf _ x (ends-are-the-tables t wf .first-on) h
+
+    or-top : (x : Reference) → On t wf x → T (isLadderPrice (priceOr (top (ladder t)) x) t)
+    or-top x h = price-on t wf _ x (ends-are-the-tables t wf .last-on) h
+
+    lowest-on : (rule : Rule) → T (isLadderPrice (lowestOf (ladder t) percent rule q r) t)
+    unfolding lowestOf
+    lowest-on BuyLimit = or-bottom _ (low-on t wf percent _ (buy-on q _ _ queues (all .previous-close) (all .day-low)))
+    lowest-on BuyEnhanced = or-bottom _ (low-on t wf percent _ (buy-on q _ _ queues (all .previous-close) (all .day-low)))
+    lowest-on BuySpecial = or-bottom _ (ask-on q queues)
+    lowest-on SellLimit = or-bottom _ (bid-on q queues)
+    lowest-on SellEnhanced = or-bottom _ (below-on t wf _ (bid-on q queues))
+    lowest-on SellSpecial = ends-are-the-tables t wf .first-on
+
+    highest-on : (rule : Rule) → T (isLadderPrice (highestOf (ladder t) percent rule q r) t)
+    unfolding highestOf
+    highest-on BuyLimit = or-top _ (ask-on q queues)
+    highest-on BuyEnhanced = or-top _ (above-on t wf _ (ask-on q queues))
+    highest-on BuySpecial = ends-are-the-tables t wf .last-on
+    highest-on SellLimit = or-top _ (high-on t wf percent _ (sell-on q _ _ queues (all .previous-close) (all .day-high)))
+    highest-on SellEnhanced = or-top _ (high-on t wf percent _ (sell-on q _ _ queues (all .previous-close) (all .day-high)))
+    highest-on SellSpecial = or-top _ (bid-on q queues)
+
+-- the range of a reading; of a refusal none is asked for
+rangeIn : Range → Reading → Range
+rangeIn none (Permitted range) = range
+rangeIn none (Refused refusal) = none
+
+refused-or-permitted : {C : Type 0} (x : Refusal) (range : Range) → Refused x ≡ Permitted range → C
+refused-or-permitted x range e = let n : _≡_ {A = ℕ} 0 1 = cc in absurd (zero-is-one n)
+
+pub bounds-on-ladder : BoundsOnLadder
+unfolding readingOf chosen readingBy rangeOf rangeIn
+bounds-on-ladder t wf percent c r range = by-codes (unknownCode c)
+  where
+    rule : Rule
+    rule = ruleOf (c .side) (c .«order_type»)
+
+    q : Queues
+    q = queuesOf (c .queue) r
+
+    by-checks : (off disagrees alone : Bool) → anyOff (ladder t) r ≡ off →
+        cond off (Refused OffLadder)
+        (cond disagrees (Refused Disagreement)
+        (cond alone (Refused NoOpposite)
+        (Permitted (rangeOf (ladder t) percent rule q r)))) ≡ Permitted range → EndsOnLadder t range
+    by-checks true b d e f = refused-or-permitted _ _ f
+    by-checks false true d e f = refused-or-permitted _ _ f
+    by-checks false false true e f = refused-or-permitted _ _ f
+    by-checks false false false e f =
+        let all = all-on t wf r e in
+        let queues = queues-on t wf (c .queue) r all in
+        rw (← (ap (rangeIn range) f))
+        (record { lowest-on = lowest-on t wf percent q r queues all rule; highest-on = highest-on t wf percent q r queues all rule })
+
+    by-codes : (unknown : Bool) → readingOn (ladder t) percent (cond unknown Unknown (Chosen rule q)) r ≡ Permitted range → EndsOnLadder t range
+    by-codes true e = refused-or-permitted _ _ e
+    by-codes false e = by-checks (anyOff (ladder t) r) (disagree q r) (unopposed rule q) refl e
