@@ -1,16 +1,23 @@
 -- The laws of specs/Laws.antt, proved.
 use mathlib.Core.Path.{_≡_, refl, sym, _∙_, ap}
-use Prim.Native.Nat.{ℕ, zero, suc, _+_, _*_, _/_, _%_, _≤_}
+use Prim.Native.Nat.{ℕ, zero, suc, _+_, _*_, _-_, _/_, _%_, _≤_}
 use native.Mathlib.Nat.{add-zero, add-suc, add-assoc}
 use native.Mathlib.Omega.{arith}
+use mathlib.Core.Bool.{Bool, true, false, cond}
 use mathlib.Core.List.{List, _++_, append-assoc, append-nil}
 use lib.ListN.{length, take, drop, length-append, length-drop}
-use lib.Seq.{take-append-le, drop-append-le, drop-append-add}
+use lib.Seq.{take-append-le, drop-append-le, drop-append-add, drop-at, drop-length, length-take-le}
+use Rattle.ladder.proofs.Lists.Truth.{zero-is-one}
+use Rattle.text.specs.Decimal.{Text}
+use Rattle.text.specs.Ending.{endingAt}
 use Rattle.limits.specs.declared.Percentage.{Percentage}
 use Rattle.questions.specs.Record.{questionBytes, countOf, questionAt}
 use Rattle.judging.specs.Answers.{judged}
-use Rattle.pages.specs.Lines.{line, linesTo, leftLine}
-use Rattle.pages.specs.Laws.{PagesJoin, EmptyPage, PageLaws}
+use Rattle.pages.specs.declared.Page.{Page}
+use Rattle.pages.specs.declared.Page.the-variants.{From, Refused}
+use Rattle.pages.specs.Lines.{line, linesTo, leftLine, page}
+use Rattle.pages.specs.Pages.{pageRefused}
+use Rattle.pages.specs.Laws.{PagesJoin, EmptyPage, StandsFrom, PageStands, PageLaws}
 
 -- ---- pages join
 
@@ -56,5 +63,37 @@ pub empty-page : EmptyPage
 unfolding linesTo leftLine
 empty-page l percent first = refl
 
+-- ---- where a page stands
+
+-- where a page begins, 0 for none
+startOf : Page → ℕ
+startOf (From start) = start
+startOf Refused = 0
+
+-- written at the end of a text, x stands there
+ends-with : (x text : Text) → StandsFrom (length text - length x) x (endingAt (length text) x text)
+ends-with x text =
+    record {
+      inside =
+          omega (arith, length-append (take (length text - length x) text) (x ++ drop (length text) text), front);
+      is-page =
+          drop-at (take (length text - length x) text) (x ++ drop (length text) text) (length text - length x) front ∙
+          rw (drop-length text) (append-nil x);
+    }
+  where
+    front : length (take (length text - length x) text) ≡ length text - length x
+    front = length-take-le (length text - length x) text (omega arith)
+
+pub page-stands : PageStands
+unfolding startOf
+page-stands l percent first s text start = go (pageRefused first (length s) (length text))
+  where
+    go : (v : Bool) → cond v Refused (From (length text - length (page l percent first s))) ≡ From start →
+        StandsFrom start (page l percent first s) (cond v text (endingAt (length text) (page l percent first s) text))
+    go true e = let n : _≡_ {A = ℕ} 0 1 = cc in absurd (zero-is-one n)
+    go false e = rw (← (ap startOf e)) (ends-with (page l percent first s) text)
+
+-- ---- all of them
+
 pub page-laws : PageLaws
-page-laws = record { pages-join = pages-join; empty-page = empty-page }
+page-laws = record { pages-join = pages-join; empty-page = empty-page; page-stands = page-stands }

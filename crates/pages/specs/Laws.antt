@@ -1,12 +1,15 @@
 -- The laws of pages. Each is proved in proofs/Laws.antt: PagesJoin as pages-join, and so on.
 use mathlib.Core.Path.{_≡_}
-use Prim.Native.Nat.{ℕ, _+_, _%_}
+use Prim.Native.Nat.{ℕ, _+_, _%_, _≤_}
 use mathlib.Core.List.{[], _++_}
-use lib.ListN.{length}
+use lib.ListN.{length, drop}
+use Rattle.text.specs.Decimal.{Text}
 use Rattle.ladder.specs.Ladder.{Prices}
 use Rattle.limits.specs.declared.Percentage.{Percentage}
 use Rattle.questions.specs.Record.{Bytes, questionBytes, countOf}
+use Rattle.pages.specs.declared.Page.the-variants.{From}
 use Rattle.pages.specs.Lines.{page}
+use Rattle.pages.specs.Pages.{pagePlace, textAfter}
 
 -- How the input is cut does not show: after whole questions, the page goes on with the next number.
 abbrev pub PagesJoin : Type 0
@@ -18,7 +21,18 @@ PagesJoin =
 abbrev pub EmptyPage : Type 0
 EmptyPage = (l : Prices) (percent : Percentage) (first : ℕ) → page l percent first [] ≡ []
 
+-- Where the call answers `From start`, the text from there to its end is the page, and nothing else.
+pub record StandsFrom (start : ℕ) (page text : Text) : Type 0 where
+  pub inside : start ≤ length text
+  pub is-page : drop start text ≡ page
+
+abbrev pub PageStands : Type 0
+PageStands =
+    (l : Prices) (percent : Percentage) (first : ℕ) (s : Bytes) (text : Text) (start : ℕ) → pagePlace l percent first s text ≡ From start →
+    StandsFrom start (page l percent first s) (textAfter l percent first s text)
+
 -- All of them.
 pub record PageLaws : Type 0 where
   pub pages-join : PagesJoin
   pub empty-page : EmptyPage
+  pub page-stands : PageStands

@@ -26,8 +26,8 @@ abbrev pub pageRefused : ℕ → ℕ → ℕ → Bool
 pageRefused first asked room = ltb room (countOf asked * lineRoom + leftRoom) || ltb 18446744073709551615 (first + countOf asked)
 
 -- where the page stands: from there to the end of the text
-abbrev pub placeOf : Prices → Percentage → ℕ → Bytes → Text → Page
-placeOf l percent first s text =
+abbrev pub pagePlace : Prices → Percentage → ℕ → Bytes → Text → Page
+pagePlace l percent first s text =
     cond (pageRefused first (length s) (length text)) Refused (From (length text - length (page l percent first s)))
 
 -- the text after the call, where it was `text` before

@@ -8,7 +8,7 @@ ghost use mathlib.Core.Path.{_≡_};
 ghost use Rattle.ladder.specs.Bands.{phase1};
 ghost use Rattle.ladder.specs.Ladder.{ladder};
 ghost use Rattle.limits.specs.Limits.{fivePercent};
-ghost use Rattle.pages.specs.Pages.{placeOf, textAfter};
+ghost use Rattle.pages.specs.Pages.{pagePlace, textAfter};
 
 // How many characters a line may have, and the line of the bytes that are left over.
 pub const LINE_ROOM: usize = 54;
@@ -25,7 +25,7 @@ pub enum Page {
 // the text. It is refused where the text has less than LINE_ROOM characters a question and LEFT_ROOM more, or where the number after the
 // last has more than 64 bits: the text then keeps every byte.
 pub fn write_page(questions: &[u8], first: u64, text: &mut [u8]) -> Page
-    ensures place { λ r. ⌜ r ≡ placeOf (ladder phase1) fivePercent first (now (questions .entry)) (now (text .entry)) ⌝ }
+    ensures place { λ r. ⌜ r ≡ pagePlace (ladder phase1) fivePercent first (now (questions .entry)) (now (text .entry)) ⌝ }
     ensures text { λ _. ⌜ now (text .exit) ≡ textAfter (ladder phase1) fivePercent first (now (questions .entry)) (now (text .entry)) ⌝ }
 {
     let table = ladder::table::phase_1();

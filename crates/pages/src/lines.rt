@@ -16,7 +16,7 @@ ghost use Rattle.text.specs.Ending.{endingAt};
 ghost use Rattle.ladder.specs.Layout.{isTable, pricesOf};
 ghost use Rattle.questions.specs.Record.{questionBytes};
 ghost use Rattle.pages.specs.Lines.{line, linesTo, leftLine};
-ghost use Rattle.pages.specs.Pages.{lineRoom, leftRoom, pageRefused, placeOf, textAfter};
+ghost use Rattle.pages.specs.Pages.{lineRoom, leftRoom, pageRefused, pagePlace, textAfter};
 
 // Writes the line of one question.
 fn put_line(text: &mut [u8], end: usize, number: u64, answer: Answer) -> usize
@@ -26,10 +26,10 @@ fn put_line(text: &mut [u8], end: usize, number: u64, answer: Answer) -> usize
     ensures room { λ r. ⌜ end ≤ r + lineRoom ⌝ }
     ensures text { λ _. ⌜ now (text .exit) ≡ endingAt end (line number answer) (now (text .entry)) ⌝ }
 {
-    let highest = put_field(text, end, answer.highest as u64, b'\n');
-    let lowest = put_field(text, highest, answer.lowest as u64, b' ');
-    let reason = put_field(text, lowest, answer.number as u64, b' ');
-    put_field(text, reason, number, b' ')
+    let highest_start = put_field(text, end, answer.highest as u64, b'\n');
+    let lowest_start = put_field(text, highest_start, answer.lowest as u64, b' ');
+    let reason_start = put_field(text, lowest_start, answer.number as u64, b' ');
+    put_field(text, reason_start, number, b' ')
 }
 
 // Writes the lines of the first `count` questions.
@@ -74,8 +74,8 @@ fn put_left(text: &mut [u8], end: usize, left: usize) -> usize
     if left == 0 {
         return end;
     }
-    let number = put_field(text, end, left as u64, b'\n');
-    put_word(text, number, b"left ")
+    let number_start = put_field(text, end, left as u64, b'\n');
+    put_word(text, number_start, b"left ")
 }
 
 // Whether a page is refused: by the number of its first question, the bytes of the questions and those of the text.
@@ -99,14 +99,14 @@ pub fn write(
     text: &mut [u8],
 ) -> Page
     requires { ⌜ T (isTable (now table)) ⌝ }
-    ensures place { λ r. ⌜ r ≡ placeOf (pricesOf (now (table .entry))) percentage first (now (questions .entry)) (now (text .entry)) ⌝ }
+    ensures place { λ r. ⌜ r ≡ pagePlace (pricesOf (now (table .entry))) percentage first (now (questions .entry)) (now (text .entry)) ⌝ }
     ensures text { λ _. ⌜ now (text .exit) ≡ textAfter (pricesOf (now (table .entry))) percentage first (now (questions .entry)) (now (text .entry)) ⌝ }
 {
     if is_refused(first, questions.len(), text.len()) {
         return Page::Refused;
     }
     let count = questions.len() / QUESTION_BYTES;
-    let left = put_left(text, text.len(), questions.len() % QUESTION_BYTES);
-    let start = put_lines(table, percentage, questions, count, first, text, left);
+    let left_start = put_left(text, text.len(), questions.len() % QUESTION_BYTES);
+    let start = put_lines(table, percentage, questions, count, first, text, left_start);
     Page::From(start)
 }

@@ -1,13 +1,14 @@
--- How the input is cut does not show. Proved in proofs/Laws.antt: PiecesJoin as pieces-join.
+-- The laws of pricecheck. Each is proved in proofs/Laws.antt: PiecesJoin as pieces-join, and so on.
 use mathlib.Core.Path.{_≡_}
-use Prim.Native.Nat.{ℕ, suc}
-use mathlib.Core.Bool.{Bool, true, _&&_}
+use Prim.Native.Nat.{ℕ, suc, _≤_, _<_}
+use mathlib.Core.Bool.{Bool, true, false, _&&_}
 use mathlib.Core.List.{List, [], _∷_, _++_}
 use lib.Dec.{T, eqb}
 use lib.ListN.{length}
 use Rattle.text.specs.Decimal.{Text}
 use Rattle.questions.specs.Record.{Bytes}
-use Rattle.pricecheck.specs.Run.{pageFrom, printed, pieceBytes, firstOf}
+use Rattle.pages.specs.Pages.{pageRefused}
+use Rattle.pricecheck.specs.Run.{pageFrom, printed, pieceBytes, textBytes, firstOf, answeredPart, runFrom}
 
 -- pieces end to end
 abbrev pub joined : List Bytes → Bytes
@@ -24,8 +25,30 @@ abbrev pub pagesFrom : ℕ → List Bytes → Text
 pagesFrom k [] = []
 pagesFrom k (s ∷ rest) = pageFrom (firstOf k) s ++ pagesFrom (suc k) rest
 
--- Of full pieces and a last one, the pages end to end are what is printed of the whole.
+-- How the input is cut does not show: of full pieces and a last one, the pages end to end are what is printed of the whole.
 abbrev pub PiecesJoin : Type 0
 PiecesJoin =
     (pieces : List Bytes) (last : Bytes) → T (allFull pieces) →
     printed (joined pieces ++ last) ≡ pagesFrom 0 pieces ++ pageFrom (firstOf (length pieces)) last
+
+-- turns that brought full pieces, without a failure
+abbrev pub fullTurns : List Bytes → List (Bytes × Bool)
+fullTurns [] = []
+fullTurns (s ∷ rest) = (s, false) ∷ fullTurns rest
+
+-- A run writes what is printed of all that came: of full pieces, and of what is answered of the first that is not full, after which nothing
+-- is read.
+abbrev pub RunIsPrinted : Type 0
+RunIsPrinted =
+    (pieces : List Bytes) (last : Bytes) (failed : Bool) (later : List (Bytes × Bool)) → T (allFull pieces) → length last < pieceBytes →
+    runFrom 0 (fullTurns pieces ++ ((last, failed) ∷ later)) ≡ printed (joined pieces ++ answeredPart failed (length last) last)
+
+-- The page of a piece is never refused: its text has room for it, and its numbers have 64 bits.
+abbrev pub PiecesFit : Type 0
+PiecesFit = (k bytes : ℕ) → k < 4294967296 → bytes ≤ pieceBytes → pageRefused (firstOf k) bytes textBytes ≡ false
+
+-- All of them.
+pub record PricecheckLaws : Type 0 where
+  pub pieces-join : PiecesJoin
+  pub run-is-printed : RunIsPrinted
+  pub pieces-fit : PiecesFit

@@ -6,7 +6,7 @@ use Rattle.pricecheck.proofs.answered_bytes.Statement.{statement}
 use Rattle.pricecheck.proofs.answered_bytes.Tie as tie
 
 returns : tie.Need-returns
-returns c = (rw (c .before .if1 .taken) refl, omega arith)
+returns c = (rw (c .if1 .taken) refl, omega arith)
 
 returns-2 : tie.Need-returns-2
 returns-2 c = (rw (c .if1 .left) refl, omega arith)
