@@ -7,7 +7,7 @@ use super::orders::SELL_ONLY;
 use super::saying;
 
 // 24 times the spread at the reference; 5 percent to the nearest spread; rounding by the reference's spread.
-pub fn steps_and_rounding() {
+pub(crate) fn steps_and_rounding() {
     saying::price_and_not(b"0.50 plus 24 spreads", ladder::up(500, 24), 740, 620);
     saying::price_and_not(
         b"19.91 less 5 percent",
@@ -24,14 +24,14 @@ pub fn steps_and_rounding() {
 }
 
 // A missing previous close taken as the least price would show 0.010 as the lowest. Low(3.00) is 2.76.
-pub fn missing_close() {
+pub(crate) fn missing_close() {
     let order = Order::new(BUY, LIMIT, SELL_ONLY).quotes(0, 3000);
     saying::order(b"no previous close", order, 2760, 0, 2760, 3000);
     saying::order(b"no previous close", order, 2750, 8, 2760, 3000);
 }
 
 // A price of exactly nine times the nominal let through.
-pub fn nine_fold() {
+pub(crate) fn nine_fold() {
     let order = Order::new(BUY, LIMIT, BUY_ONLY)
         .quotes(1000, 0)
         .nominal(1000);

@@ -14,7 +14,7 @@ use super::saying;
 use trades::judge_trade;
 
 // By the previous close, also for the nine-fold rule: Low(1.00) is 0.76, High(1.00) 1.24. Without one the nominal does not step in.
-pub fn opening() {
+pub(crate) fn opening() {
     let buy = Order::new(BUY, LIMIT, OPENING).close(1000);
     saying::order(b"opening buy, close 1.00", buy, 760, 0, 760, 8990);
     saying::order(b"opening buy, close 1.00", buy, 9000, 10, 760, 8990);
@@ -27,7 +27,7 @@ pub fn opening() {
 
 // The last ask joins only where there is a close or a day low; the last bid never does for a buy. Low(2.50) is 2.26, Low(2.00) 1.76,
 // Low(2.80) 2.56, High(2.80) 3.04.
-pub fn neither() {
+pub(crate) fn neither() {
     let buy = Order::new(BUY, LIMIT, NEITHER).close(2500);
     saying::order(b"neither, buy, close 2.50", buy, 2260, 0, 2260, 9995000);
     saying::order(
@@ -62,7 +62,7 @@ pub fn neither() {
 
 // The greatest of bid, close and day high, 1.20: High is 1.44; nine spreads below 1.00 are 0.91. The least of ask, close and day low,
 // 0.90: Low is 0.66; nine spreads above 1.00 are 1.09.
-pub fn one_queue() {
+pub(crate) fn one_queue() {
     let sell = Order::new(SELL, ENHANCED, BUY_ONLY)
         .quotes(1000, 0)
         .close(1100)
@@ -78,7 +78,7 @@ pub fn one_queue() {
 }
 
 // From the opposite quote to the end of the ladder.
-pub fn special() {
+pub(crate) fn special() {
     let buy = Order::new(BUY, SPECIAL, BOTH).quotes(19890, 19900);
     saying::order(b"special buy", buy, 19900, 0, 19900, 9995000);
     saying::order(b"special buy", buy, 19890, 8, 19900, 9995000);
@@ -88,7 +88,7 @@ pub fn special() {
 }
 
 // Under nine times 19.90, which is 179.10: 179.00. Over a ninth of 0.90, which is 0.100: 0.101.
-pub fn nine_fold() {
+pub(crate) fn nine_fold() {
     let special = Order::new(BUY, SPECIAL, SELL_ONLY)
         .quotes(0, 19900)
         .nominal(19900);
@@ -116,7 +116,7 @@ pub fn nine_fold() {
 }
 
 // Numbers 2 to 5, which show no range.
-pub fn refused() {
+pub(crate) fn refused() {
     saying::order(b"side 3", Order::new(3, LIMIT, NEITHER), 1000, 2, 0, 0);
     saying::order(
         b"opening, nominal 0.251",
@@ -153,7 +153,7 @@ pub fn refused() {
 }
 
 // High(0.034) is 0.058. Where all are missing the range is the whole ladder.
-pub fn trades() {
+pub(crate) fn trades() {
     saying::trade(
         b"trade, bids 9.60 to 10.30",
         9601,

@@ -1,5 +1,5 @@
-// Worked prices: what the library finds for each line of document 01, "Prices worked out", and for the examples of source document 004,
-// compared with what is due. Each line ends with right or WRONG.
+// Worked prices: what the library finds for each line of document 01, "Prices worked out", for the examples of source document 004, for
+// the programs that would look finished, and for some lines more, compared with what is due. Each line ends with right or WRONG.
 mod orders; // orders.rt: a question by its fields, and its bytes
 mod saying; // saying.rt: a line of output
 mod paper; // paper.rt: lines A to P, and source document 004

@@ -2,7 +2,7 @@
 ghost use Prim.Native.Nat.{_+_, _≤_};
 
 // All of a question but its order price.
-pub struct Order {
+pub(crate) struct Order {
     pub side: u8,
     pub order_type: u8,
     pub queue: u8,
@@ -16,28 +16,28 @@ pub struct Order {
     pub nominal: u32,
 }
 
-pub const BUY: u8 = 1;
+pub(crate) const BUY: u8 = 1;
 
-pub const SELL: u8 = 2;
+pub(crate) const SELL: u8 = 2;
 
-pub const LIMIT: u8 = 1;
+pub(crate) const LIMIT: u8 = 1;
 
-pub const ENHANCED: u8 = 2;
+pub(crate) const ENHANCED: u8 = 2;
 
-pub const SPECIAL: u8 = 3;
+pub(crate) const SPECIAL: u8 = 3;
 
-pub const OPENING: u8 = 1;
+pub(crate) const OPENING: u8 = 1;
 
-pub const BOTH: u8 = 2;
+pub(crate) const BOTH: u8 = 2;
 
-pub const BUY_ONLY: u8 = 3;
+pub(crate) const BUY_ONLY: u8 = 3;
 
-pub const SELL_ONLY: u8 = 4;
+pub(crate) const SELL_ONLY: u8 = 4;
 
-pub const NEITHER: u8 = 5;
+pub(crate) const NEITHER: u8 = 5;
 
 impl Order {
-    pub fn new(side: u8, order_type: u8, queue: u8) -> Order {
+    pub(crate) fn new(side: u8, order_type: u8, queue: u8) -> Order {
         Order {
             side: side,
             order_type: order_type,
@@ -53,30 +53,30 @@ impl Order {
         }
     }
 
-    pub fn quotes(mut self, bid: u32, ask: u32) -> Order {
+    pub(crate) fn quotes(mut self, bid: u32, ask: u32) -> Order {
         self.bid = bid;
         self.ask = ask;
         self
     }
 
-    pub fn last_quotes(mut self, last_bid: u32, last_ask: u32) -> Order {
+    pub(crate) fn last_quotes(mut self, last_bid: u32, last_ask: u32) -> Order {
         self.last_bid = last_bid;
         self.last_ask = last_ask;
         self
     }
 
-    pub fn close(mut self, close: u32) -> Order {
+    pub(crate) fn close(mut self, close: u32) -> Order {
         self.close = close;
         self
     }
 
-    pub fn day(mut self, day_low: u32, day_high: u32) -> Order {
+    pub(crate) fn day(mut self, day_low: u32, day_high: u32) -> Order {
         self.day_low = day_low;
         self.day_high = day_high;
         self
     }
 
-    pub fn nominal(mut self, nominal: u32) -> Order {
+    pub(crate) fn nominal(mut self, nominal: u32) -> Order {
         self.nominal = nominal;
         self
     }
@@ -93,7 +93,7 @@ fn put(bytes: &mut [u8; 40], at: usize, number: u32)
 }
 
 // The question's bytes, with this order price.
-pub fn question(order: Order, price: u32) -> [u8; 40] {
+pub(crate) fn question(order: Order, price: u32) -> [u8; 40] {
     let mut bytes = [0u8; 40];
     bytes[0] = order.side;
     bytes[1] = order.order_type;

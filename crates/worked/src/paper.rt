@@ -1,6 +1,6 @@
 // Lines A to P of document 01, and both examples of source document 004.
 //
-// Each order but P is tried at the lowest and the highest price shown, and at the next prices outside.
+// Each order of lines A to O is tried at the lowest and the highest price shown, and at the next prices outside.
 use super::orders::BOTH;
 use super::orders::BUY;
 use super::orders::BUY_ONLY;
@@ -16,7 +16,7 @@ use limits::lower_limit;
 use limits::upper_limit;
 use trades::judge_trade;
 
-pub fn a_to_d() {
+pub(crate) fn a_to_d() {
     let a = Order::new(BUY, LIMIT, BOTH).quotes(19890, 19900);
     saying::range(b"A", a, 18900, 19900, outside(18890, 8), outside(19910, 9));
     let b = Order::new(SELL, LIMIT, BOTH).quotes(495, 500);
@@ -27,7 +27,7 @@ pub fn a_to_d() {
     saying::range(b"D", d, 450, 740, outside(445, 8), outside(750, 9));
 }
 
-pub fn e_to_j() {
+pub(crate) fn e_to_j() {
     saying::price(b"E Low(0.51)", lower_limit(510), 385);
     saying::price(b"F High(0.245)", upper_limit(245), 345);
     saying::price(b"G Low(0.034)", lower_limit(34), 10);
@@ -39,7 +39,7 @@ pub fn e_to_j() {
     saying::price(b"J Low(20.20)", lower_limit(20200), 19190);
 }
 
-pub fn k_and_l() {
+pub(crate) fn k_and_l() {
     let k = Order::new(BUY, LIMIT, BUY_ONLY)
         .quotes(1000, 0)
         .nominal(1000);
@@ -56,7 +56,7 @@ fn trade_m(price: u32, number: u32) {
     saying::trade(b"M", price, answer, number, 9500, 10600);
 }
 
-pub fn m() {
+pub(crate) fn m() {
     trade_m(9500, 0);
     trade_m(10600, 0);
     trade_m(9503, 0);
@@ -64,7 +64,7 @@ pub fn m() {
     trade_m(10610, 9);
 }
 
-pub fn n_to_p() {
+pub(crate) fn n_to_p() {
     let n = Order::new(BUY, LIMIT, SELL_ONLY)
         .quotes(0, 3000)
         .close(2500)
@@ -80,7 +80,7 @@ pub fn n_to_p() {
 }
 
 // As an order price 20.06 is a ladder price; 20.05 gets 7.
-pub fn ladder_prices() {
+pub(crate) fn ladder_prices() {
     let order = Order::new(BUY, LIMIT, NEITHER);
     saying::order(b"a ladder price", order, 20060, 0, 10, 9995000);
     saying::order(b"between two ladder prices", order, 20050, 7, 10, 9995000);
@@ -88,7 +88,7 @@ pub fn ladder_prices() {
 
 // Example 1: the lower limit of a limit buy order. 24 spreads give 19.65, 5 percent 18.8955, rounded up 18.90.
 // Example 2: the upper limit of a limit sell order. 24 spreads give 0.74, 5 percent 0.525, rounded down 0.52.
-pub fn source_document_004() {
+pub(crate) fn source_document_004() {
     saying::price(
         b"004, example 1, 19.89 less 24 spreads",
         ladder::down(19890, 24),

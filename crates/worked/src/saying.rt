@@ -4,6 +4,10 @@ use super::orders::question;
 use judging::Answer;
 use ladder::Found;
 use libc::STDOUT_FILENO;
+ghost use mathlib.Core.Path.{_≡_};
+ghost use mathlib.Core.Bool.{_&&_};
+ghost use lib.Dec.{eqb};
+ghost use Rattle.ladder.specs.Search.{orElse};
 
 fn say(word: &[u8]) {
     io::write_all(STDOUT_FILENO, word);
@@ -29,6 +33,13 @@ fn say_whether(is_right: bool) {
     }
 }
 
+// Whether two answers are the same.
+fn is_same(found: Answer, due: Answer) -> bool
+    ensures { λ r. ⌜ r ≡ (eqb (found .number) (due .number) && eqb (found .lowest) (due .lowest) && eqb (found .highest) (due .highest)) ⌝ }
+{
+    (found.number == due.number) & (found.lowest == due.lowest) & (found.highest == due.highest)
+}
+
 // An answer at a price, and the one that is due.
 fn compare(asked: &[u8], price: u32, found: Answer, due: Answer) {
     say(asked);
@@ -38,15 +49,18 @@ fn compare(asked: &[u8], price: u32, found: Answer, due: Answer) {
     say_answer(found);
     say(b", due ");
     say_answer(due);
-    say_whether(
-        (found.number == due.number)
-            & (found.lowest == due.lowest)
-            & (found.highest == due.highest),
-    );
+    say_whether(is_same(found, due));
 }
 
 // An order at a price, judged by its bytes.
-pub fn order(asked: &[u8], tried: Order, price: u32, number: u32, lowest: u32, highest: u32) {
+pub(crate) fn order(
+    asked: &[u8],
+    tried: Order,
+    price: u32,
+    number: u32,
+    lowest: u32,
+    highest: u32,
+) {
     let bytes = question(tried, price);
     let due = Answer {
         number: number,
@@ -57,12 +71,12 @@ pub fn order(asked: &[u8], tried: Order, price: u32, number: u32, lowest: u32, h
 }
 
 // An order price outside the range, and the number that it gets.
-pub struct Tried {
+pub(crate) struct Tried {
     pub price: u32,
     pub number: u32,
 }
 
-pub fn outside(price: u32, number: u32) -> Tried {
+pub(crate) fn outside(price: u32, number: u32) -> Tried {
     Tried {
         price: price,
         number: number,
@@ -70,7 +84,14 @@ pub fn outside(price: u32, number: u32) -> Tried {
 }
 
 // An order at the lowest and the highest price shown, and at one below and one above.
-pub fn range(asked: &[u8], tried: Order, lowest: u32, highest: u32, below: Tried, above: Tried) {
+pub(crate) fn range(
+    asked: &[u8],
+    tried: Order,
+    lowest: u32,
+    highest: u32,
+    below: Tried,
+    above: Tried,
+) {
     order(asked, tried, lowest, 0, lowest, highest);
     order(asked, tried, highest, 0, lowest, highest);
     order(asked, tried, below.price, below.number, lowest, highest);
@@ -78,7 +99,14 @@ pub fn range(asked: &[u8], tried: Order, lowest: u32, highest: u32, below: Tried
 }
 
 // The answer to a trade.
-pub fn trade(asked: &[u8], price: u32, found: Answer, number: u32, lowest: u32, highest: u32) {
+pub(crate) fn trade(
+    asked: &[u8],
+    price: u32,
+    found: Answer,
+    number: u32,
+    lowest: u32,
+    highest: u32,
+) {
     let due = Answer {
         number: number,
         lowest: lowest,
@@ -88,33 +116,43 @@ pub fn trade(asked: &[u8], price: u32, found: Answer, number: u32, lowest: u32, 
 }
 
 // The price that was found, or 0 for none, which is no ladder price.
-fn price_of(found: Found) -> u32 {
+fn price_of(found: Found) -> u32
+    ensures { λ r. ⌜ r ≡ orElse 0 found ⌝ }
+{
     match found {
         Found::Price(price) => price,
         Found::Nothing => 0,
     }
 }
 
-// A step or a limit.
-pub fn price(asked: &[u8], found: Found, due: u32) {
-    let price = price_of(found);
+// Whether a price is the one that is due.
+fn is_due(price: u32, due: u32) -> bool
+    ensures { λ r. ⌜ r ≡ eqb price due ⌝ }
+{
+    price == due
+}
+
+// What was found, and what is due.
+fn say_prices(asked: &[u8], price: u32, due: u32) {
     say(asked);
     say(b": ");
     say_number(price);
     say(b", due ");
     say_number(due);
-    say_whether(price == due);
+}
+
+// A step or a limit.
+pub(crate) fn price(asked: &[u8], found: Found, due: u32) {
+    let price = price_of(found);
+    say_prices(asked, price, due);
+    say_whether(is_due(price, due));
 }
 
 // A step or a limit, and what a wrong program would find.
-pub fn price_and_not(asked: &[u8], found: Found, due: u32, not: u32) {
+pub(crate) fn price_and_not(asked: &[u8], found: Found, due: u32, not: u32) {
     let price = price_of(found);
-    say(asked);
-    say(b": ");
-    say_number(price);
-    say(b", due ");
-    say_number(due);
+    say_prices(asked, price, due);
     say(b" and not ");
     say_number(not);
-    say_whether((price == due) & (price != not));
+    say_whether(is_due(price, due) & !is_due(price, not));
 }
