@@ -1,6 +1,7 @@
 // Questions: a question from its bytes, and the checks on its references.
 //
-// Prices are whole mils.
+// Prices are whole mils. What the codes choose is the crate `rules` above; the types that it answers with are declared here, since the
+// checks take them.
 mod bytes; // bytes.rt: little-endian numbers
 pub mod decoding; // decoding.rt: a question from its bytes
 pub mod missing; // missing.rt: references, each a price or missing
