@@ -1,4 +1,5 @@
-# What the shell tests share: a scratch folder, and tests that are counted.
+# What the shell tests share: a scratch folder, files compared, and tests that
+# are counted.
 scratch=$(mktemp -d) || { echo '0 passed, 1 failed'; exit 1; }
 trap 'rm -rf "$scratch"' EXIT
 passed=0
@@ -16,6 +17,13 @@ check() {
         cat "$scratch/said"
         failed=$((failed + 1))
     fi
+}
+
+# holds FILE TEXT: the file out or err of the scratch folder has these lines and
+# no more; TEXT is a format of printf
+holds() {
+    # shellcheck disable=SC2059
+    printf "$2" | diff - "$scratch/$1"
 }
 
 # The last line, and the exit status.
