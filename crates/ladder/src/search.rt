@@ -34,7 +34,7 @@ fn count_below(table: &[u32], from: usize, scale: u32, y: u64) -> usize
 }
 
 // How many bands, from the first, end below y / scale. Where y lands on the table, this is the index of its band; above the
-// table it is the number of bands. The lower half is tried band by band; the upper half is counted, with no jump that hangs on y.
+// table it is the number of bands. The lower half is tried band by band; the upper half is counted, with no jump that depends on y.
 pub(crate) fn bands_below(table: &[u32], scale: u32, y: u64) -> usize
     requires { ⌜ T (isTable (now table)) ⌝ }
     ensures { λ r. ⌜ r ≡ bandsBelow scale y (bandsOf (now (table .entry))) ⌝ }
