@@ -1,16 +1,12 @@
 -- An answer as 12 bytes.
-use Prim.Native.Nat.{ℕ, _+_, _/_, _%_}
-use mathlib.Core.List.{[], _∷_, _++_}
-use Rattle.questions.specs.Record.{Bytes, number}
+use Prim.Native.Nat.{ℕ, _+_}
+use mathlib.Core.List.{_++_}
+use Rattle.questions.specs.Record.{Bytes, number, fourBytes}
 use Rattle.judging.specs.declared.Answer.{Answer}
 
 -- how many bytes an answer has
 abbrev pub answerBytes : ℕ
 answerBytes = 12
-
--- the 4 bytes of a number, little-endian
-abbrev pub fourBytes : ℕ → Bytes
-fourBytes x = x % 256 ∷ x / 256 % 256 ∷ x / 65536 % 256 ∷ x / 16777216 % 256 ∷ []
 
 -- "An answer is 12 bytes, three 4-byte little-endian numbers: answer number, lowest and highest permitted price."
 unfoldable pub encoded : Answer → Bytes

@@ -2,7 +2,8 @@
 use judging::Answer;
 ghost use mathlib.Core.Path.{_≡_};
 ghost use lib.ListN.{length};
-ghost use Rattle.batch.specs.Record.{answerBytes, fourBytes, encoded};
+ghost use Rattle.questions.specs.Record.{fourBytes};
+ghost use Rattle.batch.specs.Record.{answerBytes, encoded};
 
 // Writes the 4 bytes of a number, the lowest first.
 fn put(part: &mut [u8], x: u32)

@@ -9,6 +9,11 @@ use Rattle.questions.specs.declared.Reference.the-variants.{Missing, Pri
 abbrev pub referenceOf : ℕ → Reference
 referenceOf number = cond (eqb number 0) Missing (Price number)
 
+-- the number that a reference is written as
+abbrev pub numberOf : Reference → ℕ
+numberOf Missing = 0
+numberOf (Price p) = p
+
 abbrev pub present : Reference → Bool
 present Missing = false
 present (Price p) = true

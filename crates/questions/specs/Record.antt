@@ -1,7 +1,7 @@
--- A question from its 40 bytes.
-use Prim.Native.Nat.{ℕ, _+_, _*_, _/_}
+-- A question from its 40 bytes, and its bytes.
+use Prim.Native.Nat.{ℕ, _+_, _*_, _/_, _%_}
 use mathlib.Core.Bool.{cond}
-use mathlib.Core.List.{List}
+use mathlib.Core.List.{List, [], _∷_, _++_}
 use lib.Dec.{eqb}
 use lib.ListN.{length, getD, take, drop}
 use Rattle.questions.specs.declared.Codes.{Codes}
@@ -9,7 +9,7 @@ use Rattle.questions.specs.declared.References.{References}
 use Rattle.questions.specs.declared.Question.{Question}
 use Rattle.questions.specs.declared.Decoded.{Decoded}
 use Rattle.questions.specs.declared.Decoded.the-variants.{Asked, WrongLength}
-use Rattle.questions.specs.Missing.{referenceOf}
+use Rattle.questions.specs.Missing.{referenceOf, numberOf}
 
 -- bytes, each a number below 256
 abbrev pub Bytes : Type 0
@@ -29,6 +29,10 @@ questionAt k s = take questionBytes (drop (k * questionBytes) s)
 -- the 4-byte little-endian number from a byte on
 abbrev pub number : ℕ → Bytes → ℕ
 number at s = getD s at 0 + getD s (at + 1) 0 * 256 + getD s (at + 2) 0 * 65536 + getD s (at + 3) 0 * 16777216
+
+-- the 4 bytes of a number, little-endian
+abbrev pub fourBytes : ℕ → Bytes
+fourBytes x = x % 256 ∷ x / 256 % 256 ∷ x / 65536 % 256 ∷ x / 16777216 % 256 ∷ []
 
 -- "Byte 0 is the side .. byte 1 the order type .. byte 2 the queue code .. byte 3 is zero."
 unfoldable pub codesOf : Bytes → Codes
@@ -58,3 +62,17 @@ questionOf s = record { codes = codesOf s; price = priceOf s; references = refer
 -- bytes of any other number are no question
 abbrev pub decoded : Bytes → Decoded
 decoded s = cond (eqb (length s) questionBytes) (Asked (questionOf s)) WrongLength
+
+-- the bytes of a question, in the same order. The law BytesDecode says that they are read back as that question.
+unfoldable pub bytesOf : Question → Bytes
+bytesOf q =
+    (q .codes .side ∷ q .codes .«order_type» ∷ q .codes .queue ∷ q .codes .«byte_3» ∷ []) ++
+    (fourBytes (q .price) ++
+    (fourBytes (numberOf (q .references .«current_bid»)) ++
+    (fourBytes (numberOf (q .references .«current_ask»)) ++
+    (fourBytes (numberOf (q .references .«last_bid»)) ++
+    (fourBytes (numberOf (q .references .«last_ask»)) ++
+    (fourBytes (numberOf (q .references .«previous_close»)) ++
+    (fourBytes (numberOf (q .references .«day_low»)) ++
+    (fourBytes (numberOf (q .references .«day_high»)) ++
+    fourBytes (numberOf (q .references .nominal))))))))))

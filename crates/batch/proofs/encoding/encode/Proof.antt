@@ -1,6 +1,7 @@
 -- Three numbers, one after the other.
 use borrow.Author.Needs.{needs}
-use Rattle.batch.specs.Record.{fourBytes, encoded}
+use Rattle.questions.specs.Record.{fourBytes}
+use Rattle.batch.specs.Record.{encoded}
 use Rattle.batch.proofs.Parts.{three-parts}
 use Rattle.batch.proofs.encoding.encode.Statement.{statement}
 use Rattle.batch.proofs.encoding.encode.Tie as tie
