@@ -13,8 +13,8 @@ use borrow.Author.Tests.{not-true, eqb-true, eqb-false}
 use Rattle.ladder.specs.Bands.{Table, wellFormed}
 use Rattle.ladder.specs.Ladder.{ladder, isLadderPrice}
 use Rattle.ladder.specs.Places.{lastPrice}
-use Rattle.ladder.proofs.Lists.Truth.{passed, and-right, or-cases}
-use Rattle.ladder.proofs.Lists.Rising.{under-last}
+use Rattle.facts.proofs.Tests.{passed, and-right, or-cases}
+use Rattle.ladder.proofs.Lists.Ends.{under-last}
 use Rattle.ladder.proofs.Laws.{rising, listed}
 use Rattle.limits.specs.declared.Percentage.{Percentage}
 use Rattle.questions.specs.Record.{questionBytes, number, countOf, questionAt}

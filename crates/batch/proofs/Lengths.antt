@@ -6,7 +6,7 @@ use native.Mathlib.Omega.{arith}
 use mathlib.Core.Bool.{false, not, _||_}
 use lib.Dec.{eqb, ltb}
 use borrow.Author.Tests.{ltb-false}
-use Rattle.ladder.proofs.Lists.Truth.{or-false}
+use Rattle.facts.proofs.Tests.{or-false}
 use Rattle.questions.specs.Record.{questionBytes, countOf}
 use Rattle.batch.specs.Record.{answerBytes}
 use Rattle.batch.specs.Batch.{mostQuestions, refused}

@@ -7,10 +7,10 @@ use native.Mathlib.Omega.{arith}
 use mathlib.Core.Bool.{Bool, true, false, not, cond, _&&_}
 use mathlib.Core.List.{List}
 use lib.Dec.{T, eqb, leb, ltb, ltb→lt}
-use Rattle.ladder.specs.Search.{holds}
+use Rattle.facts.specs.Lists.{holds, Rising}
 use Rattle.ladder.specs.Places.{firstPrice, lastPrice}
-use Rattle.ladder.proofs.Lists.Truth.{or-cases, failed, zero-is-one}
-use Rattle.ladder.proofs.Lists.Rising.{Rising, over-first, under-last}
+use Rattle.facts.proofs.Tests.{or-cases, failed, zero-is-one}
+use Rattle.ladder.proofs.Lists.Ends.{over-first, under-last}
 use Rattle.ranges.specs.declared.Range.{Range}
 use Rattle.judging.specs.declared.Verdict.{Verdict}
 use Rattle.judging.specs.declared.Verdict.the-variants.{Accepted, OutsideLadder, BetweenPrices, BelowLowest, AboveHighest, NineFold}

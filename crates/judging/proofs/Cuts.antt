@@ -10,11 +10,11 @@ use Rattle.ladder.specs.declared.Found.{Found}
 use Rattle.ladder.specs.declared.Found.the-variants as found
 use Rattle.ladder.specs.Bands.{Table, wellFormed}
 use Rattle.ladder.specs.Ladder.{ladder}
-use Rattle.ladder.specs.Search.{holds, first, latest, atLeast, atMost}
+use Rattle.facts.specs.Lists.{holds, Rising}
+use Rattle.ladder.specs.Search.{first, latest, atLeast, atMost}
 use Rattle.ladder.proofs.Laws.{rising, never-zero, priced}
-use Rattle.ladder.proofs.Lists.Rising.{Rising}
 use Rattle.ladder.proofs.Lists.Extremes.{None, first-is, latest-is, first-none, latest-none}
-use Rattle.ladder.proofs.Lists.Truth.{and-left, and-right, and-both}
+use Rattle.facts.proofs.Tests.{and-left, and-right, and-both}
 use Rattle.questions.specs.declared.Reference.{Reference}
 use Rattle.questions.specs.declared.Reference.the-variants.{Missing, Price}
 use Rattle.ranges.specs.declared.Range.{Range}

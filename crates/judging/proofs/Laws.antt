@@ -12,9 +12,10 @@ use Rattle.ladder.specs.Bands.{Table, wellFormed}
 use Rattle.ladder.specs.Ladder.{ladder, isLadderPrice}
 use Rattle.ladder.specs.declared.Found.{Found}
 use Rattle.ladder.specs.declared.Found.the-variants.{Price, Nothing}
-use Rattle.ladder.specs.Search.{holds, first, latest, orElse}
+use Rattle.facts.specs.Lists.{holds}
+use Rattle.ladder.specs.Search.{first, latest, orElse}
 use Rattle.ladder.proofs.Lists.Extremes.{Result, Least, Greatest, first-result, latest-result}
-use Rattle.ladder.proofs.Lists.Truth.{and-left, and-right, true-of}
+use Rattle.facts.proofs.Tests.{and-left, and-right, true-of}
 use Rattle.ladder.proofs.Laws.{the-ladder, rising, never-zero, listed}
 use Rattle.limits.specs.declared.Percentage.{Percentage}
 use Rattle.questions.specs.declared.Decoded.{Decoded}

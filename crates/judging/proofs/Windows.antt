@@ -7,9 +7,9 @@ use mathlib.Core.List.{List}
 use lib.Dec.{T, leb, leb→le, le→leb}
 use Rattle.ladder.specs.declared.Found.{Found}
 use Rattle.ladder.specs.declared.Found.the-variants.{Price, Nothing}
-use Rattle.ladder.specs.Search.{holds, first, latest, orElse, atLeast, atMost}
-use Rattle.ladder.proofs.Lists.Truth.{and-left, and-right, and-both, same}
-use Rattle.ladder.proofs.Lists.Rising.{Rising}
+use Rattle.facts.specs.Lists.{holds, Rising}
+use Rattle.ladder.specs.Search.{first, latest, orElse, atLeast, atMost}
+use Rattle.facts.proofs.Tests.{and-left, and-right, and-both, same}
 use Rattle.ladder.proofs.Lists.Extremes.{Best, None, Result, Least, Greatest, first-result, latest-result, first-is, latest-is}
 
 pub record Window (l : List ℕ) (test : ℕ → Bool) (from to : ℕ) : Type 0 where

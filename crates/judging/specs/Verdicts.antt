@@ -4,7 +4,7 @@ use Prim.Native.Nat.{ℕ}
 use mathlib.Core.Bool.{Bool, not, cond, _||_}
 use lib.Dec.{ltb}
 use Rattle.ladder.specs.Ladder.{Prices}
-use Rattle.ladder.specs.Search.{holds}
+use Rattle.facts.specs.Lists.{holds}
 use Rattle.ladder.specs.Places.{firstPrice, lastPrice}
 use Rattle.ranges.specs.declared.Range.{Range}
 use Rattle.judging.specs.declared.Verdict.{Verdict}

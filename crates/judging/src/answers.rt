@@ -14,7 +14,7 @@ use ranges::readings;
 ghost use mathlib.Core.Path.{_≡_};
 ghost use lib.Dec.{T};
 ghost use Rattle.ladder.specs.Layout.{isTable, pricesOf};
-ghost use Rattle.ladder.specs.Search.{holds};
+ghost use Rattle.facts.specs.Lists.{holds};
 ghost use Rattle.judging.specs.Verdicts.{verdictOf};
 ghost use Rattle.judging.specs.Numbers.{refusalNumber, readingNumber, verdictNumber};
 ghost use Rattle.judging.specs.Answers.{noneShown, answerWith, answerOn, judged};

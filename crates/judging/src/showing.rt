@@ -9,7 +9,8 @@ ghost use mathlib.Core.Path.{_≡_};
 ghost use Prim.Native.Nat.{_+_, _-_, _*_, _/_, min};
 ghost use lib.Dec.{T};
 ghost use Rattle.ladder.specs.Layout.{isTable, pricesOf};
-ghost use Rattle.ladder.specs.Search.{holds, first, latest, atLeast, atMost};
+ghost use Rattle.facts.specs.Lists.{holds};
+ghost use Rattle.ladder.specs.Search.{first, latest, atLeast, atMost};
 ghost use Rattle.judging.specs.Shown.{passes, shownOf};
 ghost use Rattle.judging.specs.Cutting.{cutLowest, cutHighest, shownBetween};
 

@@ -1,6 +1,4 @@
--- Laws: the laws that a reader looks for. Answers: what callers in other crates learn of an answer. Lists: rising lists of prices.
--- What is known of bands is in Tables, for this crate alone.
+-- Laws: what other crates see. Lists: rising lists of prices. Tables: how bands make the ladder, and what band arithmetic finds on it.
 pub mod Laws
-pub mod Answers
-pub mod Lists
+mod Lists
 mod Tables

@@ -1,6 +1,5 @@
 -- Rising lists of prices: nothing here knows of a band.
-pub mod Truth
-pub mod Rising
+pub mod Ends
 pub mod Extremes
 pub mod Entries
 pub mod Moves

@@ -14,7 +14,8 @@ use Rattle.ladder.specs.declared.turns.Turn.the-variants.{Ends, Leaves}
 use Rattle.ladder.specs.declared.rounding.Gap.{Gap}
 use Rattle.ladder.specs.Bands.{Table, noBand}
 use Rattle.ladder.specs.Ladder.{width, ladder}
-use Rattle.ladder.specs.Search.{holds, first, latest, atLeast, atMost}
+use Rattle.facts.specs.Lists.{holds}
+use Rattle.ladder.specs.Search.{first, latest, atLeast, atMost}
 
 -- how many bands, from the first, end below y: their top, times scale, is less than y. Where y lands on the table, this is the
 -- index of its band; above the table it is the number of bands

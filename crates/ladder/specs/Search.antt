@@ -1,15 +1,10 @@
 -- Going through every price of a ladder, from the first to the last.
 use Prim.Native.Nat.{ℕ, _*_}
-use mathlib.Core.Bool.{Bool, false, cond, _||_}
+use mathlib.Core.Bool.{Bool, cond}
 use mathlib.Core.List.{List, [], _∷_}
-use lib.Dec.{eqb, ltb, leb}
+use lib.Dec.{ltb, leb}
 use Rattle.ladder.specs.declared.Found.{Found}
 use Rattle.ladder.specs.declared.Found.the-variants.{Price, Nothing}
-
--- p is one of the prices
-unfoldable pub holds : ℕ → List ℕ → Bool
-holds p [] = false
-holds p (q ∷ qs) = eqb p q || holds p qs
 
 -- the first price that passes a test
 unfoldable pub first : (ℕ → Bool) → List ℕ → Found

@@ -4,7 +4,8 @@ use mathlib.Core.Bool.{cond}
 use mathlib.Core.List.{List}
 use Rattle.ladder.specs.declared.Found.{Found}
 use Rattle.ladder.specs.declared.Found.the-variants.{Price, Nothing}
-use Rattle.ladder.specs.Search.{holds, first, latest, orElse, above, below}
+use Rattle.facts.specs.Lists.{holds}
+use Rattle.ladder.specs.Search.{first, latest, orElse, above, below}
 
 -- a single spread up: the first price above p, or p where there is none
 unfoldable pub spreadUp : List ℕ → ℕ → ℕ

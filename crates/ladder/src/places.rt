@@ -10,7 +10,7 @@ ghost use mathlib.Core.Path.{_≡_};
 ghost use Prim.Native.Nat.{_<_};
 ghost use lib.Dec.{T};
 ghost use lib.ListN.{length};
-ghost use Rattle.ladder.specs.Search.{holds};
+ghost use Rattle.facts.specs.Lists.{holds};
 ghost use Rattle.ladder.specs.Layout.{bandsOf, isTable, pricesOf};
 ghost use Rattle.ladder.specs.Places.{priceAt, placeOf};
 ghost use Rattle.ladder.specs.Arithmetic.{placesBelow};

@@ -8,11 +8,12 @@ use lib.Dec.{T, ltb→lt}
 use Rattle.ladder.specs.declared.Found.the-variants.{Price, Nothing}
 use Rattle.ladder.specs.declared.Found.{Found}
 use Rattle.ladder.specs.Bands.{Table, phase1, wellFormed}
-use Rattle.ladder.specs.Search.{holds, first, latest, orElse, atLeast, atMost}
+use Rattle.facts.specs.Lists.{holds}
+use Rattle.ladder.specs.Search.{first, latest, orElse, atLeast, atMost}
 use Rattle.ladder.specs.Ladder.{ladder, isLadderPrice}
 use Rattle.ladder.specs.Places.{firstPrice, lastPrice}
 use Rattle.ladder.specs.Spreads.{spreadUp, spreadDown, times, ifHeld}
-use Rattle.ladder.proofs.Lists.Rising.{first-held, last-held}
+use Rattle.ladder.proofs.Lists.Ends.{first-held, last-held}
 use Rattle.ladder.proofs.Lists.Order.{up-by, down-by, up-on, down-on, times-on}
 use Rattle.ladder.proofs.Answers.{has-answer}
 use Rattle.ladder.proofs.Laws.{rising, listed, priced}

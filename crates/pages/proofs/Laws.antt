@@ -7,7 +7,7 @@ use mathlib.Core.Bool.{Bool, true, false, cond}
 use mathlib.Core.List.{List, _++_, append-assoc, append-nil}
 use lib.ListN.{length, take, drop, length-append, length-drop}
 use lib.Seq.{take-append-le, drop-append-le, drop-append-add, drop-at, drop-length, length-take-le}
-use Rattle.ladder.proofs.Lists.Truth.{zero-is-one}
+use Rattle.facts.proofs.Tests.{zero-is-one}
 use Rattle.text.specs.Decimal.{Text}
 use Rattle.text.specs.Ending.{endingAt}
 use Rattle.limits.specs.declared.Percentage.{Percentage}

@@ -4,7 +4,7 @@ use Prim.Native.Nat.{ℕ, _+_, _*_, _≤_}
 use mathlib.Core.Bool.{false}
 use lib.Dec.{ltb}
 use borrow.Author.Tests.{ltb-false}
-use Rattle.ladder.proofs.Lists.Truth.{or-false}
+use Rattle.facts.proofs.Tests.{or-false}
 use Rattle.questions.specs.Record.{countOf}
 use Rattle.pages.specs.Pages.{lineRoom, leftRoom, pageRefused}
 

@@ -11,7 +11,7 @@ use lib.Seq.{take-length}
 use borrow.Author.Tests.{le-ltb, eq-eqb, ne-eqb}
 use Rattle.ladder.specs.Bands.{phase1}
 use Rattle.ladder.specs.Ladder.{ladder}
-use Rattle.ladder.proofs.Lists.Truth.{and-left, and-right}
+use Rattle.facts.proofs.Tests.{and-left, and-right}
 use Rattle.limits.specs.Limits.{fivePercent}
 use Rattle.questions.specs.Record.{Bytes, countOf}
 use Rattle.pages.specs.Pages.{lineRoom, leftRoom}

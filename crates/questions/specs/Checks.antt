@@ -1,7 +1,7 @@
 -- Why a question comes back before its price is looked at, by who can cause it. Check 2, the calling program's, is unknownCode of Rules.
 use mathlib.Core.Bool.{Bool, true, false, not, cond, _||_}
 use Rattle.ladder.specs.Ladder.{Prices}
-use Rattle.ladder.specs.Search.{holds}
+use Rattle.facts.specs.Lists.{holds}
 use Rattle.questions.specs.declared.Reference.{Reference}
 use Rattle.questions.specs.declared.Reference.the-variants.{Missing, Price}
 use Rattle.questions.specs.declared.References.{References}

@@ -5,7 +5,7 @@ use mathlib.Core.Bool.{Bool, true, false, not, cond, _&&_}
 use lib.Dec.{T, eqb}
 use Rattle.ladder.specs.Bands.{Table, wellFormed}
 use Rattle.ladder.specs.Ladder.{ladder, isLadderPrice}
-use Rattle.ladder.proofs.Lists.Truth.{or-false, zero-is-one}
+use Rattle.facts.proofs.Tests.{or-false, zero-is-one}
 use Rattle.ladder.proofs.Laws.{ends-are-the-tables}
 use Rattle.limits.specs.declared.Percentage.{Percentage}
 use Rattle.questions.specs.declared.Reference.{Reference}

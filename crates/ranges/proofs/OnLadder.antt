@@ -6,9 +6,9 @@ use lib.Dec.{T}
 use borrow.Author.Tests.{not-false}
 use Rattle.ladder.specs.Bands.{Table, wellFormed}
 use Rattle.ladder.specs.Ladder.{ladder, isLadderPrice}
-use Rattle.ladder.specs.Search.{holds}
+use Rattle.facts.specs.Lists.{holds}
 use Rattle.ladder.specs.Spreads.{spreadUp, spreadDown}
-use Rattle.ladder.proofs.Lists.Truth.{passed, true-of}
+use Rattle.facts.proofs.Tests.{passed, true-of}
 use Rattle.ladder.proofs.Lists.Order.{up-on, down-on, times-on}
 use Rattle.ladder.proofs.Laws.{rising, listed, priced}
 use Rattle.limits.specs.declared.Percentage.{Percentage}

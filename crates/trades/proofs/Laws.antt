@@ -8,8 +8,8 @@ use borrow.Author.Tests.{le-ltb}
 use Rattle.ladder.specs.Bands.{Table, wellFormed}
 use Rattle.ladder.specs.Ladder.{Prices, ladder, isLadderPrice}
 use Rattle.ladder.specs.Places.{firstPrice, lastPrice}
-use Rattle.ladder.proofs.Lists.Truth.{and-left, and-right, or-false, zero-is-one}
-use Rattle.ladder.proofs.Lists.Rising.{over-first, under-last}
+use Rattle.facts.proofs.Tests.{and-left, and-right, or-false, zero-is-one}
+use Rattle.ladder.proofs.Lists.Ends.{over-first, under-last}
 use Rattle.ladder.proofs.Laws.{rising, listed, ends-are-the-tables}
 use Rattle.limits.specs.declared.Percentage.{Percentage}
 use Rattle.questions.specs.Checks.{isOff, badPair}

@@ -7,7 +7,7 @@ use lib.Dec.{T}
 use borrow.Author.Tests.{ltb-false}
 use Rattle.ladder.specs.Bands.{Table, wellFormed}
 use Rattle.ladder.specs.Ladder.{ladder}
-use Rattle.ladder.proofs.Lists.Truth.{zero-is-one}
+use Rattle.facts.proofs.Tests.{zero-is-one}
 use Rattle.limits.specs.declared.Percentage.{Percentage}
 use Rattle.limits.proofs.Laws.{limits-enclose}
 use Rattle.questions.specs.declared.Reference.{Reference}

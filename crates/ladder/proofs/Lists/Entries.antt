@@ -10,10 +10,10 @@ use lib.Dec.{T, eqb}
 use lib.ListN.{length}
 use Rattle.ladder.specs.declared.Found.the-variants.{Price, Nothing}
 use Rattle.ladder.specs.declared.Place.the-variants.{At, OffLadder}
-use Rattle.ladder.specs.Search.{holds}
+use Rattle.facts.specs.Lists.{holds, Rising}
 use Rattle.ladder.specs.Places.{priceAt, placeFrom, firstPrice, lastAfter, lastPrice}
-use Rattle.ladder.proofs.Lists.Truth.{zero-is-one}
-use Rattle.ladder.proofs.Lists.Rising.{Rising, held-cases, held-first, held-rest, held-none, Next, behind, front}
+use Rattle.facts.proofs.Tests.{zero-is-one}
+use Rattle.facts.proofs.Lists.{held-cases, held-first, held-rest, held-none, Next, behind, front}
 
 -- nothing found is no price
 pub no-price : {C : Type 0} (p : ℕ) → Nothing ≡ Price p → C
@@ -96,17 +96,6 @@ unfolding priceAt
 entry-below [] k p e = no-price p e
 entry-below (a ∷ l) zero p e = omega arith
 entry-below (a ∷ l) (suc k) p e = suc-le-suc (entry-below l k p e)
-
--- later places have higher prices
-pub entries-rise : (l : List ℕ) → Rising l → (j k p q : ℕ) → j < k → priceAt j l ≡ Price p → priceAt k l ≡ Price q → p < q
-unfolding priceAt
-entries-rise [] r j k p q m e f = no-price p e
-entries-rise (a ∷ l) r j zero p q m e f = absurd (not-suc-le-zero m)
-entries-rise (a ∷ l) r zero (suc k) p q m e f =
-    let i : p ≡ a = cc in
-    let u : a < q = r .0 q (entry-held l k q f) in
-    omega arith
-entries-rise (a ∷ l) r (suc j) (suc k) p q m e f = entries-rise l (r .1) j k p q (le-of-suc-le-suc m) e f
 
 -- the price at the first place, and at the last
 pub first-entry : (l : List ℕ) (p : ℕ) → priceAt 0 l ≡ Price p → p ≡ firstPrice l

@@ -8,9 +8,11 @@ use mathlib.Core.List.{List, [], _∷_}
 use lib.Dec.{T}
 use Rattle.ladder.specs.declared.Found.{Found}
 use Rattle.ladder.specs.declared.Found.the-variants.{Price, Nothing}
-use Rattle.ladder.specs.Search.{holds, first, latestAfter, latest}
-use Rattle.ladder.proofs.Lists.Truth.{true-of, untrue}
-use Rattle.ladder.proofs.Lists.Rising.{Rising, held-cases, held-first, held-rest, held-none}
+use Rattle.facts.specs.Lists.{holds, Rising}
+use Rattle.ladder.specs.Laws.{Least, Greatest}
+use Rattle.ladder.specs.Search.{first, latestAfter, latest}
+use Rattle.facts.proofs.Tests.{true-of, untrue}
+use Rattle.facts.proofs.Lists.{held-cases, held-first, held-rest, held-none}
 
 -- ---- what a search finds: a member that passes and is extreme (R q x: q is as extreme as x), or that none passes
 
@@ -25,12 +27,6 @@ None test l = (x : ℕ) → T (holds x l) → T (test x) → ⊥
 abbrev pub Result : (ℕ → ℕ → Type 0) → (ℕ → Bool) → List ℕ → Found → Type 0
 Result R test l (Price q) = Best R test l q
 Result R test l Nothing = None test l
-
-abbrev pub Least : ℕ → ℕ → Type 0
-Least q x = q ≤ x
-
-abbrev pub Greatest : ℕ → ℕ → Type 0
-Greatest q x = x ≤ q
 
 -- a search that finds something extreme finds nothing else
 pub result-is : (R : ℕ → ℕ → Type 0) → ((x y : ℕ) → R x y → R y x → x ≡ y) → (test : ℕ → Bool) (l : List ℕ) (f : Found) (q : ℕ) →
@@ -115,12 +111,19 @@ latest-result test l r = rw (keeps test l Nothing) (go (last test l) (last-resul
     go (Price q) b = b
     go Nothing b = b
 
+-- there is one least, and one greatest
+pub least-one : (x y : ℕ) → Least x y → Least y x → x ≡ y
+least-one x y h k = le-antisymm h k
+
+pub greatest-one : (x y : ℕ) → Greatest x y → Greatest y x → x ≡ y
+greatest-one x y h k = le-antisymm k h
+
 -- a search that finds the least, or the greatest, that passes
 pub first-is : (l : List ℕ) → Rising l → (test : ℕ → Bool) (q : ℕ) → Best Least test l q → first test l ≡ Price q
-first-is l r test q b = result-is Least (λ x y h k. le-antisymm h k) test l (first test l) q (first-result test l r) b
+first-is l r test q b = result-is Least least-one test l (first test l) q (first-result test l r) b
 
 pub latest-is : (l : List ℕ) → Rising l → (test : ℕ → Bool) (q : ℕ) → Best Greatest test l q → latest test l ≡ Price q
-latest-is l r test q b = result-is Greatest (λ x y h k. le-antisymm k h) test l (latest test l) q (latest-result test l r) b
+latest-is l r test q b = result-is Greatest greatest-one test l (latest test l) q (latest-result test l r) b
 
 pub first-none : (l : List ℕ) → Rising l → (test : ℕ → Bool) → None test l → first test l ≡ Nothing
 first-none l r test n = result-none Least test l (first test l) (first-result test l r) n

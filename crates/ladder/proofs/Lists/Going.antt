@@ -8,7 +8,7 @@ use lib.ListN.{length}
 use Rattle.ladder.specs.declared.Found.the-variants.{Price}
 use Rattle.ladder.specs.Places.{priceAt, firstPrice, lastPrice}
 use Rattle.ladder.specs.Spreads.{spreadUp, spreadDown, times}
-use Rattle.ladder.proofs.Lists.Rising.{Rising}
+use Rattle.facts.specs.Lists.{Rising}
 use Rattle.ladder.proofs.Lists.Entries.{next-at, at-place, entry-below, first-entry, last-entry}
 use Rattle.ladder.proofs.Lists.Moves.{spread-up, spread-down, up-stays, down-stays}
 

@@ -7,10 +7,12 @@ use native.Mathlib.Omega.{arith}
 use mathlib.Core.List.{List}
 use lib.Dec.{T, lt→ltb, ltb→lt, le→leb, leb→le}
 use Rattle.ladder.specs.declared.Found.the-variants.{Price, Nothing}
-use Rattle.ladder.specs.Search.{holds, first, latest, orElse, above, below, atLeast, atMost}
+use Rattle.facts.specs.Lists.{holds, Rising}
+use Rattle.ladder.specs.Search.{first, latest, orElse, above, below, atLeast, atMost}
 use Rattle.ladder.specs.Places.{firstPrice, lastPrice}
 use Rattle.ladder.specs.Spreads.{spreadUp, spreadDown, times}
-use Rattle.ladder.proofs.Lists.Rising.{Rising, over-first, under-last, first-held, last-held, Next, gap-down}
+use Rattle.facts.proofs.Lists.{Next, gap-down}
+use Rattle.ladder.proofs.Lists.Ends.{over-first, under-last, first-held, last-held}
 use Rattle.ladder.proofs.Lists.Extremes.{first-is, latest-is, first-none, latest-none}
 
 -- ---- a threshold between two neighbours

@@ -7,11 +7,13 @@ use mathlib.Core.List.{List}
 use lib.Dec.{T, ltb→lt, lt→ltb, leb→le, le→leb}
 use Rattle.ladder.specs.declared.Found.{Found}
 use Rattle.ladder.specs.declared.Found.the-variants.{Price, Nothing}
-use Rattle.ladder.specs.Search.{holds, first, latest, orElse, above, below, atLeast, atMost}
+use Rattle.facts.specs.Lists.{holds, Rising}
+use Rattle.ladder.specs.Search.{first, latest, orElse, above, below, atLeast, atMost}
 use Rattle.ladder.specs.Places.{firstPrice, lastPrice}
 use Rattle.ladder.specs.Spreads.{spreadUp, spreadDown, times}
-use Rattle.ladder.proofs.Lists.Rising.{Rising, over-first, under-last}
-use Rattle.ladder.proofs.Lists.Extremes.{Best, None, Result, Least, Greatest, first-result, latest-result}
+use Rattle.ladder.proofs.Lists.Ends.{over-first, under-last}
+use Rattle.ladder.specs.Laws.{Least, Greatest}
+use Rattle.ladder.proofs.Lists.Extremes.{Best, None, Result, first-result, latest-result}
 
 -- what is shown of all that a search may find, and of what stands in where it finds nothing, holds of the outcome
 found : (R : ℕ → ℕ → Type 0) (test : ℕ → Bool) (l : List ℕ) (other : ℕ) (P : ℕ → Type 0) (f : Found) → Result R test l f →
@@ -63,6 +65,13 @@ pub times-on : (l : List ℕ) (step : ℕ → ℕ) → ((p : ℕ) → T (holds p
 unfolding times
 times-on l step on zero p h = h
 times-on l step on (suc n) p h = times-on l step on n (step p) (on p h)
+
+-- n steps lead where each step leads, as long as R goes on
+pub times-lead : (R : ℕ → ℕ → Type 0) → ((p : ℕ) → R p p) → ((p q s : ℕ) → R p q → R q s → R p s) → (step : ℕ → ℕ) →
+    ((p : ℕ) → R p (step p)) → (n p : ℕ) → R p (times n step p)
+unfolding times
+times-lead R here on step leads zero p = here p
+times-lead R here on step leads (suc n) p = on p (step p) (times n step (step p)) (leads p) (times-lead R here on step leads n (step p))
 
 times-order : (l : List ℕ) (step : ℕ → ℕ) → ((p : ℕ) → T (holds p l) → T (holds (step p) l)) →
     ((p q : ℕ) → T (holds p l) → T (holds q l) → p ≤ q → step p ≤ step q) →

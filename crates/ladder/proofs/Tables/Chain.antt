@@ -13,8 +13,9 @@ use Rattle.ladder.specs.Bands.{noBand, whole, chained}
 use Rattle.ladder.specs.Ladder.{width, rungs, bandPrices}
 use Rattle.ladder.specs.Arithmetic.{placesBelow}
 use Rattle.ladder.specs.Places.{priceAt, lastAfter}
-use Rattle.ladder.proofs.Lists.Truth.{and-left, and-right}
-use Rattle.ladder.proofs.Lists.Rising.{Rising, held-cases, held-none}
+use Rattle.facts.proofs.Tests.{and-left, and-right}
+use Rattle.facts.specs.Lists.{Rising}
+use Rattle.facts.proofs.Lists.{held-cases, held-none}
 
 -- band k of a table
 abbrev pub bandAt : List Band → ℕ → Band

@@ -12,10 +12,10 @@ use Rattle.ladder.specs.declared.Band.{Band}
 use Rattle.ladder.specs.declared.Found.the-variants.{Price}
 use Rattle.ladder.specs.Bands.{wellFormed}
 use Rattle.ladder.specs.Ladder.{width, rungs, bandPrices, ladder, inBand, inSomeBand, isLadderPrice}
-use Rattle.ladder.specs.Search.{holds}
+use Rattle.facts.specs.Lists.{holds}
 use Rattle.ladder.specs.Places.{priceAt}
-use Rattle.ladder.proofs.Lists.Truth.{and-left, and-right, and-both, or-left, or-right, or-cases, same}
-use Rattle.ladder.proofs.Lists.Rising.{held-cases, held-none, held-first}
+use Rattle.facts.proofs.Tests.{and-left, and-right, and-both, or-left, or-right, or-cases, same}
+use Rattle.facts.proofs.Lists.{held-cases, held-none, held-first}
 use Rattle.ladder.proofs.Lists.Entries.{held-entry, entry-held}
 use Rattle.ladder.proofs.Tables.Chain.{Whole, Chain, rungs-entry, rungs-past}
 use Rattle.ladder.proofs.Tables.Table.{Index, index-of, table-facts}

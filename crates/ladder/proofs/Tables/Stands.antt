@@ -11,15 +11,15 @@ use lib.ListN.{length}
 use Rattle.ladder.specs.declared.Band.{Band}
 use Rattle.ladder.specs.Bands.{wellFormed}
 use Rattle.ladder.specs.Ladder.{width, ladder}
-use Rattle.ladder.specs.Search.{holds}
+use Rattle.facts.specs.Lists.{holds}
 use Rattle.ladder.specs.declared.search.Standing.{Standing}
 use Rattle.ladder.specs.declared.search.Standing.the-variants.{In, OffLadder}
 use Rattle.ladder.specs.declared.Found.the-variants.{Price, Nothing}
 use Rattle.ladder.specs.Spreads.{ifHeld}
 use Rattle.ladder.specs.Arithmetic.{bandsBelow, standingOf}
 use Rattle.ladder.specs.Arithmetic.{StandsIn}
-use Rattle.ladder.proofs.Lists.Truth.{zero-is-one, passed, failed}
-use Rattle.ladder.proofs.Lists.Rising.{over-first, under-last}
+use Rattle.facts.proofs.Tests.{zero-is-one, passed, failed}
+use Rattle.ladder.proofs.Lists.Ends.{over-first, under-last}
 use Rattle.ladder.proofs.Tables.Chain.{Whole, bandAt}
 use Rattle.ladder.proofs.Tables.Table.{Index, index-of, table-facts, start, ladder-rises, first-is-start, last-listed, entry-on}
 use Rattle.ladder.proofs.Tables.Table.{entries-next, is-whole}

@@ -10,11 +10,11 @@ use Rattle.ladder.specs.declared.Band.{Band}
 use Rattle.ladder.specs.declared.Found.the-variants.{Price}
 use Rattle.ladder.specs.Bands.{chained, wellFormed}
 use Rattle.ladder.specs.Ladder.{width, bandPrices, ladder}
-use Rattle.ladder.specs.Search.{holds}
+use Rattle.facts.specs.Lists.{holds, Rising}
 use Rattle.ladder.specs.Arithmetic.{placesBelow}
 use Rattle.ladder.specs.Places.{priceAt, lastAfter, firstPrice, lastPrice}
-use Rattle.ladder.proofs.Lists.Truth.{and-left, and-right}
-use Rattle.ladder.proofs.Lists.Rising.{Rising, held-first, Next}
+use Rattle.facts.proofs.Tests.{and-left, and-right}
+use Rattle.facts.proofs.Lists.{held-first, Next}
 use Rattle.ladder.proofs.Lists.Entries.{next-at, entry-held}
 use Rattle.ladder.proofs.Tables.Chain.{Whole, Chain, bandAt, chain-facts, band-entry, rises, band-whole, last-top}
 

@@ -14,9 +14,10 @@ use Rattle.ladder.specs.Bands.{wellFormed}
 use Rattle.ladder.specs.Ladder.{width, ladder}
 use Rattle.ladder.specs.Places.{firstPrice, lastPrice}
 use Rattle.ladder.specs.Spreads.{spreadUp, spreadDown, times}
+use Rattle.ladder.specs.declared.turns.Turn.{Turn}
 use Rattle.ladder.specs.declared.turns.Turn.the-variants.{Ends, Leaves}
 use Rattle.ladder.specs.Arithmetic.{StandsIn, turnOf}
-use Rattle.ladder.proofs.Lists.Truth.{zero-is-one}
+use Rattle.facts.proofs.Tests.{zero-is-one}
 use Rattle.ladder.proofs.Lists.Moves.{spread-up, spread-down, up-stays, down-stays, times-add, times-along, times-stays}
 use Rattle.ladder.proofs.Tables.Chain.{Whole, bandAt, band-after}
 use Rattle.ladder.proofs.Tables.Table.{start, table-facts, Index, index-of, first-is-start, last-is-top, ladder-rises, entries-next, is-whole}
@@ -43,28 +44,45 @@ module _ (n spread room : ℕ) where
 -- ---- a way through a band, up or down
 
 -- n spreads from p move n times the band's spread, as far as there is room; the room is a whole number of spreads and leads to the band's end
-pub record Way (step : ℕ → ℕ) (spread p room end : ℕ) (move : ℕ → ℕ) : Type 0 where
-  pub within : (n : ℕ) → n * spread ≤ room → times n step p ≡ move (n * spread)
-  pub whole : room / spread * spread ≡ room
-  pub to-end : move room ≡ end
+record Way (step : ℕ → ℕ) (spread p room end : ℕ) (move : ℕ → ℕ) : Type 0 where
+  within : (n : ℕ) → n * spread ≤ room → times n step p ≡ move (n * spread)
+  whole : room / spread * spread ≡ room
+  to-end : move room ≡ end
 
--- what a turn of a walk tells, either way
-module _ (step : ℕ → ℕ) (spread p room end : ℕ) (move : ℕ → ℕ) (way : Way step spread p room end move) (n : ℕ) where
-  -- it ends in the band
-  pub walk-ends : (mils : ℕ) → turnOf n spread room ≡ Ends mils → (mils ≤ room) × (times n step p ≡ move mils)
-  walk-ends mils e =
-      let r = turn-ends n spread room mils e in
-      (omega arith, rw (r .0) (way .within n (r .1)))
+-- what a walk of n spreads from `price` keeps, band after band: it stands in band k, and the spreads that are left lead where all n lead
+pub record Walking (step : ℕ → ℕ) (t : List Band) (price n k at left : ℕ) : Type 0 where
+  pub stands : StandsIn t k at
+  pub leads : times left step at ≡ times n step price
 
-  -- it leaves the band, and goes on from the band's end with the spreads that are left
-  pub walk-leaves : (rest : ℕ) → turnOf n spread room ≡ Leaves rest → times n step p ≡ times rest step end
-  walk-leaves rest e =
-      let r = turn-leaves n spread room rest e in
-      let has = room / spread in
-      let more : has < n = lt-of-mul-lt-mul-right spread (omega (arith, way .whole)) in
-      let parts : has + (n - has) ≡ n = omega arith in
-      let there : times has step p ≡ end = way .within has (le-of-eq (way .whole)) ∙ (ap move (way .whole) ∙ way .to-end) in
-      rw (r .0) (ap (λ m. times m step p) (sym parts) ∙ (times-add step has (n - has) p ∙ ap (times (n - has) step) there))
+-- what a turn tells such a walk: it ends in the band, or leaves it and goes on from the band's end with the spreads that are left
+pub record Told (step : ℕ → ℕ) (price n room end : ℕ) (move : ℕ → ℕ) (turn : Turn) : Type 0 where
+  pub ends : (mils : ℕ) → turn ≡ Ends mils → (mils ≤ room) × (move mils ≡ times n step price)
+  pub leaves : (rest : ℕ) → turn ≡ Leaves rest → times rest step end ≡ times n step price
+
+-- the same law for both ways
+told : (step : ℕ → ℕ) (spread at room end : ℕ) (move : ℕ → ℕ) → Way step spread at room end move → (left price n : ℕ) →
+    times left step at ≡ times n step price → (turn : Turn) → turn ≡ turnOf left spread room → Told step price n room end move turn
+told step spread at room end move way left price n leads turn is = record { ends = ends; leaves = leaves }
+  where
+    ends : (mils : ℕ) → turn ≡ Ends mils → (mils ≤ room) × (move mils ≡ times n step price)
+    ends mils e =
+        let r = turn-ends left spread room mils (sym is ∙ e) in
+        (omega arith, rw (r .0) (sym (way .within left (r .1)) ∙ leads))
+
+    has : ℕ
+    has = room / spread
+
+    there : times has step at ≡ end
+    there = way .within has (le-of-eq (way .whole)) ∙ (ap move (way .whole) ∙ way .to-end)
+
+    leaves : (rest : ℕ) → turn ≡ Leaves rest → times rest step end ≡ times n step price
+    leaves rest e =
+        let r = turn-leaves left spread room rest (sym is ∙ e) in
+        let more : has < left = lt-of-mul-lt-mul-right spread (omega (arith, way .whole)) in
+        let parts : has + (left - has) ≡ left = omega arith in
+        let split : times left step at ≡ times (left - has) step (times has step at) =
+        ap (λ m. times m step at) (sym parts) ∙ times-add step has (left - has) at in
+        rw (r .0) (ap (times (left - has) step) (sym there) ∙ (sym split ∙ leads))
 
 -- both ways through the band in which p stands
 module _ (t : List Band) (wf : T (wellFormed t)) (k p : ℕ) (on : StandsIn t k p) where
@@ -126,11 +144,21 @@ module _ (t : List Band) (wf : T (wellFormed t)) (k p : ℕ) (on : StandsIn t k 
 
   -- the code reads the band as b
   module _ (b : Band) (f : b ≡ bandAt t k) where
-    pub way-up : Way (spreadUp (ladder t)) (b .spread) p (b .top - p) (b .top) (λ m. p + m)
+    way-up : Way (spreadUp (ladder t)) (b .spread) p (b .top - p) (b .top) (λ m. p + m)
     way-up = rw f (record { within = up-within; whole = room-up; to-end = omega (arith, on .high) })
 
-    pub way-down : Way (spreadDown (ladder t)) (b .spread) p (p - b .bottom) (b .bottom) (λ m. p - m)
+    way-down : Way (spreadDown (ladder t)) (b .spread) p (p - b .bottom) (b .bottom) (λ m. p - m)
     way-down = rw f (record { within = down-within; whole = room-down; to-end = omega (arith, on .low) })
+
+-- what a turn in band k, read as b, tells a walk up, and a walk down
+module _ (t : List Band) (wf : T (wellFormed t)) (price n k at left : ℕ) (b : Band) (f : b ≡ bandAt t k) (turn : Turn) where
+  pub told-up : Walking (spreadUp (ladder t)) t price n k at left → turn ≡ turnOf left (b .spread) (b .top - at) →
+      Told (spreadUp (ladder t)) price n (b .top - at) (b .top) (λ m. at + m) turn
+  told-up w is = told _ (b .spread) at _ _ _ (way-up t wf k at (w .stands) b f) left price n (w .leads) turn is
+
+  pub told-down : Walking (spreadDown (ladder t)) t price n k at left → turn ≡ turnOf left (b .spread) (at - b .bottom) →
+      Told (spreadDown (ladder t)) price n (at - b .bottom) (b .bottom) (λ m. at - m) turn
+  told-down w is = told _ (b .spread) at _ _ _ (way-down t wf k at (w .stands) b f) left price n (w .leads) turn is
 
 -- ---- from band to band
 

@@ -7,7 +7,7 @@ use mathlib.Core.List.{List}
 use lib.ListN.{length}
 use Rattle.ladder.specs.Bands.{phase1}
 use Rattle.ladder.specs.Ladder.{ladder}
-use Rattle.ladder.proofs.Lists.Truth.{zero-is-one}
+use Rattle.facts.proofs.Tests.{zero-is-one}
 use Rattle.limits.specs.Limits.{fivePercent}
 use Rattle.pages.specs.declared.Page.the-variants.{From, Refused}
 use Rattle.pages.specs.Pages.{pagePlace}

@@ -4,7 +4,7 @@ use denote.Ref.{now}
 use borrow.Author.Needs.{needs}
 use Rattle.ladder.specs.declared.search.Standing.the-variants.{OffLadder}
 use Rattle.ladder.specs.Layout.{bandsOf}
-use Rattle.ladder.proofs.Lists.Truth.{passed, failed}
+use Rattle.facts.proofs.Tests.{passed, failed}
 use Rattle.ladder.proofs.Tables.Stands.{standing-held, standing-off}
 use Rattle.ladder.proofs.places.on_ladder.Statement.{statement}
 use Rattle.ladder.proofs.places.on_ladder.Tie as tie

@@ -1,32 +1,29 @@
 -- The walk down, band by band.
 use mathlib.Core.Path.{_≡_, ap, sym, _∙_}
-use Prim.Native.Nat.{_-_, _≤_}
+use Prim.Native.Nat.{_-_}
 use denote.Ref.{now}
 use borrow.Author.Needs.{needs}
 use native.Mathlib.Omega.{arith}
 use Rattle.ladder.specs.declared.Band.{Band}
 use Rattle.ladder.specs.Layout.{bandsOf, pricesOf}
-use Rattle.ladder.specs.Spreads.{times, spreadDown}
-use Rattle.ladder.specs.Arithmetic.{StandsIn}
+use Rattle.ladder.specs.Spreads.{spreadDown}
 use Rattle.ladder.proofs.Tables.Table.{band-facts}
-use Rattle.ladder.proofs.Tables.Walks.{Way, walk-ends, walk-leaves, way-down, into-previous, down-halts}
+use Rattle.ladder.proofs.Tables.Walks.{Walking, Told, told-down, into-previous, down-halts}
 use Rattle.ladder.proofs.steps.walk_down.Statement.{statement}
 use Rattle.ladder.proofs.steps.walk_down.Tie as tie
 
--- the walk stands in band k, and the spreads that are left lead where all n lead
 abbrev Inv-loop : tie.InvT-loop
-Inv-loop table index price n k₀ at₀ left₀ k at left =
-    StandsIn (bandsOf table) k at × (times left (spreadDown (pricesOf table)) at ≡ times n (spreadDown (pricesOf table)) price)
+Inv-loop table index price n k₀ at₀ left₀ k at left = Walking (spreadDown (pricesOf table)) (bandsOf table) price n k at left
 
 -- the bands that are left
 abbrev μ-loop : tie.MeasureT-loop
 μ-loop table index price n k₀ at₀ left₀ k at left = k
 
 loop-holds : tie.Need-loop-holds Inv-loop μ-loop
-loop-holds c = search needs
+loop-holds c = record { stands = (search needs); leads = (search needs) }
 
 band-at-requires : tie.Need-band-at-requires Inv-loop μ-loop
-band-at-requires c κs = search needs
+band-at-requires c κs = c .loop .inv .stands .index
 
 sub-turn-in : tie.Need-sub-turn-in Inv-loop μ-loop
 sub-turn-in c =
@@ -35,7 +32,7 @@ sub-turn-in c =
     let l = c .before .before .loop in
     let b = c .before .band-at in
     let end = ap (λ (x : Band). x .bottom) (b .ensures) in
-    omega (arith, end, l .inv .0 .low, band-facts t (s .pre .0) (l .k) (l .inv .0 .index) (b .result) (b .ensures))
+    omega (arith, end, l .inv .stands .low, band-facts t (s .pre .0) (l .k) (l .inv .stands .index) (b .result) (b .ensures))
 
 turn-in-requires : tie.Need-turn-in-requires Inv-loop μ-loop
 turn-in-requires c κs =
@@ -43,67 +40,36 @@ turn-in-requires c κs =
     let t = bandsOf (now (s .args .table)) in
     let l = c .before .before .loop in
     let b = c .before .band-at in
-    band-facts t (s .pre .0) (l .k) (l .inv .0 .index) (b .result) (b .ensures) .spreads
+    band-facts t (s .pre .0) (l .k) (l .inv .stands .index) (b .result) (b .ensures) .spreads
 
-enum-known-turn : tie.Need-enum-known-turn Inv-loop μ-loop
-enum-known-turn c = search needs
-
--- the way through this band
-way : (c : tie.After-turn-in Inv-loop μ-loop) →
+-- what the turn in this band tells
+turned : (c : tie.After-turn-in Inv-loop μ-loop) →
     let s = c .before .before .before .before .before in
-    let at = c .before .before .before .loop .at in
+    let l = c .before .before .before .loop in
     let b = c .before .before .band-at .result in
-    Way (spreadDown (pricesOf (now (s .args .table)))) (b .spread) at (at - b .bottom) (b .bottom) (λ m. at - m)
-way c =
+    Told (spreadDown (pricesOf (now (s .args .table)))) (s .args .price) (s .args .n) (l .at - b .bottom) (b .bottom) (λ m. l .at - m) (c .turn-in .result)
+turned c =
     let s = c .before .before .before .before .before in
     let t = bandsOf (now (s .args .table)) in
     let l = c .before .before .before .loop in
     let b = c .before .before .band-at in
-    way-down t (s .pre .0) (l .k) (l .at) (l .inv .0) (b .result) (b .ensures)
-
--- the walk ends in it
-ends : (c : tie.After-known-told Inv-loop μ-loop) →
-    let s = c .before .before .before .before .before .before .before .before in
-    let l = c .before .before .before .before .before .before .loop in
-    let b = c .before .before .before .before .before .band-at .result in
-    let mils = c .before .turn .given .0 .0 in
-    (mils ≤ l .at - b .bottom) × (times (l .left) (spreadDown (pricesOf (now (s .args .table)))) (l .at) ≡ l .at - mils)
-ends c =
-    walk-ends _ _ _ _ _ _ (way (c .before .before .before)) (c .before .before .before .before .before .before .loop .left)
-    (c .before .turn .given .0 .0)
-    (sym (c .before .before .before .turn-in .ensures) ∙ c .before .turn .given .1)
+    told-down t (s .pre .0) (s .args .price) (s .args .n) (l .k) (l .at) (l .left) (b .result) (b .ensures) (c .turn-in .result) (l .inv) (c .turn-in .ensures)
 
 sub-result : tie.Need-sub-result Inv-loop μ-loop
 sub-result c =
     let end = ap (λ (x : Band). x .bottom) (c .before .before .before .before .before .band-at .ensures) in
-    omega (arith, ends c .0, end, c .before .before .before .before .before .before .loop .inv .0 .low)
+    omega (arith, turned (c .before .before .before) .ends _ (c .before .turn .given .1) .0, end, c .before .before .before .before .before .before .loop .inv .stands .low)
 
 returns : tie.Need-returns Inv-loop μ-loop
-returns c = sym (ends c .1) ∙ c .before .before .before .before .before .before .loop .inv .1
-
-enum-known-turn-2 : tie.Need-enum-known-turn-2 Inv-loop μ-loop
-enum-known-turn-2 c = search needs
-
--- the walk leaves this band with the spreads that are left
-leaves : (c : tie.After-known-told2 Inv-loop μ-loop) →
-    let s = c .before .before .before .before .before .before .before .before in
-    times (c .before .turn2 .given .0 .0) (spreadDown (pricesOf (now (s .args .table))))
-    (c .before .before .before .before .before .band-at .result .bottom) ≡
-    times (s .args .n) (spreadDown (pricesOf (now (s .args .table)))) (s .args .price)
-leaves c =
-    sym
-    (walk-leaves _ _ _ _ _ _ (way (c .before .before .before)) (c .before .before .before .before .before .before .loop .left)
-    (c .before .turn2 .given .0 .0)
-    (sym (c .before .before .before .turn-in .ensures) ∙ c .before .turn2 .given .1)) ∙
-    c .before .before .before .before .before .before .loop .inv .1
+returns c = turned (c .before .before .before) .ends _ (c .before .turn .given .1) .1
 
 returns-2 : tie.Need-returns-2 Inv-loop μ-loop
 returns-2 c =
     let s = c .before .before .before .before .before .before .before .before .before in
     let t = bandsOf (now (s .args .table)) in
     let b = c .before .before .before .before .before .before .band-at in
-    sym (down-halts t (s .pre .0) (b .result) (rw (c .if1 .taken) at (b .ensures)) (c .before .before .turn2 .given .0 .0)) ∙ leaves
-    (c .before)
+    sym (down-halts t (s .pre .0) (b .result) (rw (c .if1 .taken) at (b .ensures)) (c .before .before .turn2 .given .0 .0)) ∙
+    turned (c .before .before .before .before) .leaves _ (c .before .before .turn2 .given .1)
 
 sub-k : tie.Need-sub-k Inv-loop μ-loop
 sub-k c = omega arith
@@ -117,10 +83,13 @@ loop-again c =
     let t = bandsOf (now (s .args .table)) in
     let l = c .before .before .before .before .before .before .before .loop in
     let b = c .before .before .before .before .before .before .band-at in
-    (into-previous t (s .pre .0) (l .k) (l .inv .0 .index) (c .if1 .left) (b .result) (b .ensures), leaves (c .before))
+    record {
+      stands = into-previous t (s .pre .0) (l .k) (l .inv .stands .index) (c .if1 .left) (b .result) (b .ensures);
+      leads = turned (c .before .before .before .before) .leaves _ (c .before .before .turn2 .given .1);
+    }
 
 pub walk-down-spec : {M : Type 1} → statement M
 walk-down-spec =
     tie.close
-    (tie.spec Inv-loop μ-loop loop-holds band-at-requires sub-turn-in turn-in-requires enum-known-turn sub-result returns
-    enum-known-turn-2 returns-2 sub-k loop-less loop-again)
+    (tie.spec Inv-loop μ-loop loop-holds band-at-requires sub-turn-in turn-in-requires (λ c. search needs)
+    sub-result returns (λ c. search needs) returns-2 sub-k loop-less loop-again)

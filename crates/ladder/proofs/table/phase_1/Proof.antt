@@ -8,7 +8,7 @@ use lib.Seq.{take-all}
 use Rattle.ladder.specs.Bands.{noBand, phase1}
 use Rattle.ladder.specs.Layout.{bandsOf}
 use Rattle.ladder.proofs.Tables.Numbers.{bands-count, laid-more}
-use Rattle.ladder.proofs.Laws.{the-phase1-table}
+use Rattle.ladder.proofs.Laws.{ladder-laws}
 use Rattle.ladder.proofs.table.phase_1.Statement.{statement}
 use Rattle.ladder.proofs.table.phase_1.Tie as tie
 
@@ -39,7 +39,7 @@ returns c =
     let end : l .k ≡ 12 = omega arith in
     let all : bandsOf (l .numbers) ≡ phase1 =
     sym (take-all 12 (bandsOf (l .numbers)) (omega (arith, bands-count (l .numbers)))) ∙ (rw end at (l .inv .2)) in
-    (all, rw all (the-phase1-table .well-formed))
+    (all, rw all (ladder-laws .the-phase1-table .well-formed))
 
 pub phase-1-spec : {M : Type 1} → statement M
 phase-1-spec =

@@ -1,4 +1,4 @@
--- Rising lists: members, ends and neighbours. No bands here.
+-- Members of a list, and neighbours on a list that rises.
 use mathlib.Core.Path.{_≡_}
 use Prim.Native.Nat.{ℕ, _≤_, _<_}
 use native.Mathlib.Nat.{le-of-lt}
@@ -7,14 +7,8 @@ use native.Mathlib.Omega.{arith}
 use mathlib.Core.Logic.{⊎-elim}
 use mathlib.Core.List.{List, [], _∷_}
 use lib.Dec.{T, eqb, eqb→eq, eqb-refl}
-use Rattle.ladder.specs.Search.{holds}
-use Rattle.ladder.specs.Places.{firstPrice, lastAfter, lastPrice}
-use Rattle.ladder.proofs.Lists.Truth.{or-left, or-right, or-cases}
-
--- each price is below all that come after it
-abbrev pub Rising : List ℕ → Type 0
-Rising [] = Unit {0}
-Rising (a ∷ l) = ((x : ℕ) → T (holds x l) → a < x) × Rising l
+use Rattle.facts.specs.Lists.{holds, Rising}
+use Rattle.facts.proofs.Tests.{or-left, or-right, or-cases}
 
 -- a member of a ∷ l is a, or a member of l
 pub held-cases : {C : Type 0} (a : ℕ) (l : List ℕ) (x : ℕ) → T (holds x (a ∷ l)) → (x ≡ a → C) → (T (holds x l) → C) → C
@@ -32,31 +26,6 @@ held-rest a l x h = or-right (eqb x a) (holds x l) h
 pub held-none : {C : Type 0} (x : ℕ) → T (holds x []) → C
 unfolding holds
 held-none x h = absurd h
-
--- ---- ends
-
--- no member is below the first, and none above the last; both are members, unless the list is empty
-pub over-first : (l : List ℕ) → Rising l → (x : ℕ) → T (holds x l) → firstPrice l ≤ x
-over-first [] r x h = held-none x h
-over-first (a ∷ l) r x h = held-cases a l x h (λ e. omega arith) (λ m. le-of-lt (r .0 x m))
-
-pub under-last : (l : List ℕ) → Rising l → (x : ℕ) → T (holds x l) → x ≤ lastPrice l
-unfolding lastAfter
-under-last [] r x h = held-none x h
-under-last (a ∷ []) r x h = held-cases a [] x h (λ e. omega arith) (λ m. held-none x m)
-under-last (a ∷ b ∷ l) r x h =
-    let low : b ≤ lastAfter b l = under-last (b ∷ l) (r .1) b (held-first b l) in
-    held-cases a (b ∷ l) x h (λ e. let m : a < b = r .0 b (held-first b l) in omega arith) (λ m. under-last (b ∷ l) (r .1) x m)
-
-pub first-held : (l : List ℕ) (x : ℕ) → T (holds x l) → T (holds (firstPrice l) l)
-first-held [] x h = held-none x h
-first-held (a ∷ l) x h = held-first a l
-
-pub last-held : (l : List ℕ) (x : ℕ) → T (holds x l) → T (holds (lastPrice l) l)
-unfolding lastAfter
-last-held [] x h = held-none x h
-last-held (a ∷ []) x h = held-first a []
-last-held (a ∷ b ∷ l) x h = held-rest a (b ∷ l) (lastAfter b l) (last-held (b ∷ l) b (held-first b l))
 
 -- ---- neighbours
 

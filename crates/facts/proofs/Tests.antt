@@ -1,10 +1,11 @@
--- Boolean tests taken apart and put together.
+-- Tests, taken apart and put together.
 use mathlib.Core.Path.{_≡_, refl}
 use Prim.Native.Nat.{ℕ}
+use borrow.Author.Tests.{leb-true, leb-false, lt-ltb, le-ltb}
 use native.Mathlib.Omega.{arith}
-use mathlib.Core.Bool.{Bool, true, false, _&&_, _||_}
+use mathlib.Core.Bool.{Bool, true, false, not, _&&_, _||_}
 use mathlib.Core.Logic.{_⊎_, inl, inr}
-use lib.Dec.{T}
+use lib.Dec.{T, leb, ltb}
 
 pub and-left : (a b : Bool) → T (a && b) → T a
 and-left true b t = tt
@@ -34,6 +35,9 @@ or-cases false b t = inr t
 pub zero-is-one : _≡_ {A = ℕ} 0 1 → ⊥
 zero-is-one z = omega arith
 
+pub true-is-false : {C : Type 0} → true ≡ false → C
+true-is-false e = let z : _≡_ {A = ℕ} 0 1 = cc in absurd (zero-is-one z)
+
 -- two tests that imply each other are the same
 pub same : (a b : Bool) → (T a → T b) → (T b → T a) → a ≡ b
 same true true f g = refl
@@ -59,3 +63,11 @@ untrue b e t = rw e at t
 pub or-false : (a b : Bool) → (a || b) ≡ false → (a ≡ false) × (b ≡ false)
 or-false true b e = absurd (untrue true e tt)
 or-false false b e = (refl, e)
+
+-- a is below b exactly where b is not at most a
+pub below : (a b : ℕ) → ltb a b ≡ not (leb b a)
+below a b = go (leb b a) refl
+  where
+    go : (v : Bool) → leb b a ≡ v → ltb a b ≡ not v
+    go true e = le-ltb a b (leb-true b a e)
+    go false e = lt-ltb a b (leb-false b a e)
