@@ -1,4 +1,5 @@
 // The lower and the upper limit of a reference: its percentage limit or 24 spreads, whichever is further.
+use super::Percentage;
 use super::percent;
 use ladder::Found;
 use ladder::numbers;
@@ -6,33 +7,33 @@ use ladder::steps;
 ghost use mathlib.Core.Path.{_≡_};
 ghost use lib.Dec.{T};
 ghost use Rattle.ladder.specs.Layout.{isTable, pricesOf};
-ghost use Rattle.limits.specs.Limits.{lowOf, highOf};
+ghost use Rattle.limits.specs.Limits.{lowerLimitFound, upperLimitFound};
 
 // How many spreads a limit reaches at least.
-const SPREADS: u64 = 24;
+const LIMIT_SPREADS: u64 = 24;
 
 // The lower limit: the smaller of 24 spreads down and the percentage limit; nothing from a reference off the ladder.
-pub fn lower(table: &[u32], scale: u32, factor: u32, reference: u32) -> Found
+pub fn lower(table: &[u32], percentage: Percentage, reference: u32) -> Found
     requires { ⌜ T (isTable (now table)) ⌝ }
-    ensures { λ r. ⌜ r ≡ lowOf (pricesOf (now (table .entry))) scale factor reference ⌝ }
+    ensures { λ r. ⌜ r ≡ lowerLimitFound (pricesOf (now (table .entry))) percentage reference ⌝ }
 {
-    let found = steps::down(table, reference, SPREADS);
+    let found = steps::down(table, reference, LIMIT_SPREADS);
     let Found::Price(spreads) = found else {
         return Found::Nothing;
     };
-    let rounded = percent::rounded_up(table, scale, factor, reference);
+    let rounded = percent::rounded_up(table, percentage, reference);
     Found::Price(numbers::smaller(spreads, rounded))
 }
 
 // The upper limit: the larger of 24 spreads up and the percentage limit; nothing from a reference off the ladder.
-pub fn upper(table: &[u32], scale: u32, factor: u32, reference: u32) -> Found
+pub fn upper(table: &[u32], percentage: Percentage, reference: u32) -> Found
     requires { ⌜ T (isTable (now table)) ⌝ }
-    ensures { λ r. ⌜ r ≡ highOf (pricesOf (now (table .entry))) scale factor reference ⌝ }
+    ensures { λ r. ⌜ r ≡ upperLimitFound (pricesOf (now (table .entry))) percentage reference ⌝ }
 {
-    let found = steps::up(table, reference, SPREADS);
+    let found = steps::up(table, reference, LIMIT_SPREADS);
     let Found::Price(spreads) = found else {
         return Found::Nothing;
     };
-    let rounded = percent::rounded_down(table, scale, factor, reference);
+    let rounded = percent::rounded_down(table, percentage, reference);
     Found::Price(numbers::larger(spreads, rounded))
 }

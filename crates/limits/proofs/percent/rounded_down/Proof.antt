@@ -12,10 +12,10 @@ use Rattle.limits.proofs.percent.rounded_down.Tie as tie
 -- what rounding found, against the percentage of the reference
 found : (c : tie.After-at-most) →
     let s = c .before .before .before in
-    c .at-most .result ≡ latest (atMost (s .args .scale) (s .args .factor * s .args .reference)) (pricesOf (now (s .args .table)))
+    c .at-most .result ≡ latest (atMost (s .args .percentage .scale) (s .args .percentage .upper * s .args .reference)) (pricesOf (now (s .args .table)))
 found c =
     let s = c .before .before .before in
-    c .at-most .ensures ∙ ap (λ y. latest (atMost (s .args .scale) y) (pricesOf (now (s .args .table)))) (c .before .product .ensures)
+    c .at-most .ensures ∙ ap (λ y. latest (atMost (s .args .percentage .scale) y) (pricesOf (now (s .args .table)))) (c .before .product .ensures)
 
 returns : tie.Need-returns
 returns c =

@@ -12,10 +12,10 @@ use Rattle.limits.proofs.percent.rounded_up.Tie as tie
 -- what rounding found, against the percentage of the reference
 found : (c : tie.After-at-least) →
     let s = c .before .before .before in
-    c .at-least .result ≡ first (atLeast (s .args .scale) (s .args .factor * s .args .reference)) (pricesOf (now (s .args .table)))
+    c .at-least .result ≡ first (atLeast (s .args .percentage .scale) (s .args .percentage .lower * s .args .reference)) (pricesOf (now (s .args .table)))
 found c =
     let s = c .before .before .before in
-    c .at-least .ensures ∙ ap (λ y. first (atLeast (s .args .scale) y) (pricesOf (now (s .args .table)))) (c .before .product .ensures)
+    c .at-least .ensures ∙ ap (λ y. first (atLeast (s .args .percentage .scale) y) (pricesOf (now (s .args .table)))) (c .before .product .ensures)
 
 returns : tie.Need-returns
 returns c =
