@@ -1,11 +1,10 @@
-// Questions: a question from its bytes, and the checks on its references.
+// Questions: a question from its bytes, and the check of its references against the ladder.
 //
-// Prices are whole mils. What the codes choose is the crate `rules` above; the types that it answers with are declared here, since the
-// checks take them.
+// Prices are whole mils. What the codes choose, and the checks that depend on it, are the crate `rules` above.
 mod bytes; // bytes.rt: little-endian numbers
 pub mod decoding; // decoding.rt: a question from its bytes
 pub mod missing; // missing.rt: references, each a price or missing
-pub mod checks; // checks.rt: references off the ladder, references that disagree, special orders with no opposite queue
+pub mod checks; // checks.rt: references off the ladder, and pairs of a low and a high
 
 // How many bytes a question has.
 pub const QUESTION_BYTES: usize = 40;
@@ -49,35 +48,4 @@ pub enum Decoded {
     Asked(Question),
     // Not as many bytes as a question has.
     WrongLength,
-}
-
-// The queues, as the queue code tells of them, with the current or last bid and ask that the rules look at then.
-pub enum Queues {
-    // No bid and no ask yet today.
-    Opening,
-    // The current bid, and the current ask.
-    Both(Reference, Reference),
-    // The current bid.
-    BuyOnly(Reference),
-    // The current ask.
-    SellOnly(Reference),
-    // The last bid, and the last ask.
-    Neither(Reference, Reference),
-}
-
-// The rule for an order, by its side and type. With the queues, which the queue code chooses, it gives the permitted range.
-pub enum Rule {
-    BuyLimit,
-    BuyEnhanced,
-    BuySpecial,
-    SellLimit,
-    SellEnhanced,
-    SellSpecial,
-}
-
-// What the codes of a question choose.
-pub enum Choice {
-    Chosen(Rule, Queues),
-    // No rule has these codes.
-    Unknown,
 }

@@ -11,13 +11,14 @@ use Rattle.limits.specs.declared.Percentage.{Percentage}
 use Rattle.questions.specs.declared.Reference.{Reference}
 use Rattle.questions.specs.declared.Reference.the-variants.{Missing}
 use Rattle.questions.specs.declared.References.{References}
-use Rattle.questions.specs.declared.Queues.{Queues}
-use Rattle.questions.specs.declared.Queues.the-variants.{Opening, Both, BuyOnly, SellOnly, Neither}
-use Rattle.questions.specs.declared.Rule.{Rule}
-use Rattle.questions.specs.declared.Rule.the-variants.{BuyLimit, BuyEnhanced, BuySpecial, SellLimit, SellEnhanced, SellSpecial}
-use Rattle.questions.specs.declared.Choice.the-variants.{Chosen, Unknown}
+use Rattle.rules.specs.declared.Queues.{Queues}
+use Rattle.rules.specs.declared.Queues.the-variants.{Opening, Both, BuyOnly, SellOnly, Neither}
+use Rattle.rules.specs.declared.Rule.{Rule}
+use Rattle.rules.specs.declared.Rule.the-variants.{BuyLimit, BuyEnhanced, BuySpecial, SellLimit, SellEnhanced, SellSpecial}
+use Rattle.rules.specs.declared.Choice.the-variants.{Chosen, Unknown}
 use Rattle.questions.specs.Missing.{present, priceOr}
-use Rattle.questions.specs.Checks.{isOff, anyOff, disagree, unopposed}
+use Rattle.questions.specs.Checks.{isOff, anyOff}
+use Rattle.rules.specs.Checks.{disagree, unopposed}
 use Rattle.rules.specs.Rules.{unknownCode, ruleOf, queuesOf, chosen, askOf, bidOf}
 use Rattle.ranges.specs.declared.Range.{Range}
 use Rattle.ranges.specs.declared.Refusal.{Refusal}

@@ -2,9 +2,9 @@
 use mathlib.Core.List.{[], _∷_}
 use types.Run.{OneOf, miss}
 use denote.Enum.Declared.{tagOf}
-use Rattle.questions.specs.declared.Rule.{Rule}
-use Rattle.questions.specs.declared.Rule.the-variants.{BuyLimit, BuyEnhanced, BuySpecial, SellLimit, SellEnhanced, SellSpecial}
-use Rattle.questions.proofs.Rule.{the-type}
+use Rattle.rules.specs.declared.Rule.{Rule}
+use Rattle.rules.specs.declared.Rule.the-variants.{BuyLimit, BuyEnhanced, BuySpecial, SellLimit, SellEnhanced, SellSpecial}
+use Rattle.rules.proofs.Rule.{the-type}
 
 pub buying : (P : Rule → Type 0) → P BuyLimit → P BuyEnhanced → (rule : Rule) → OneOf (0 ∷ 1 ∷ []) (tagOf the-type rule) → P rule
 buying P limit enhanced BuyLimit h = limit

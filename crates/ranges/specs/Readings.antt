@@ -5,12 +5,13 @@ use Rattle.ladder.specs.Ladder.{Prices}
 use Rattle.limits.specs.declared.Percentage.{Percentage}
 use Rattle.questions.specs.declared.Codes.{Codes}
 use Rattle.questions.specs.declared.References.{References}
-use Rattle.questions.specs.declared.Queues.{Queues}
-use Rattle.questions.specs.declared.Rule.{Rule}
-use Rattle.questions.specs.declared.Choice.{Choice}
-use Rattle.questions.specs.declared.Choice.the-variants.{Chosen, Unknown}
+use Rattle.rules.specs.declared.Queues.{Queues}
+use Rattle.rules.specs.declared.Rule.{Rule}
+use Rattle.rules.specs.declared.Choice.{Choice}
+use Rattle.rules.specs.declared.Choice.the-variants.{Chosen, Unknown}
 use Rattle.rules.specs.Rules.{chosen}
-use Rattle.questions.specs.Checks.{anyOff, disagree, unopposed}
+use Rattle.questions.specs.Checks.{anyOff}
+use Rattle.rules.specs.Checks.{disagree, unopposed}
 use Rattle.ranges.specs.declared.Refusal.the-variants.{UnknownCode, OffLadder, Disagreement, NoOpposite}
 use Rattle.ranges.specs.declared.Reading.{Reading}
 use Rattle.ranges.specs.declared.Reading.the-variants.{Permitted, Refused}

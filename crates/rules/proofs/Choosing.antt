@@ -5,8 +5,8 @@ use mathlib.Core.Bool.{true, false, or-true}
 use borrow.Author.Tests.{eq-eqb, ne-eqb}
 use Rattle.questions.specs.declared.Codes.{Codes}
 use Rattle.questions.specs.declared.References.{References}
-use Rattle.questions.specs.declared.Queues.{Queues}
-use Rattle.questions.specs.declared.Choice.the-variants.{Chosen, Unknown}
+use Rattle.rules.specs.declared.Queues.{Queues}
+use Rattle.rules.specs.declared.Choice.the-variants.{Chosen, Unknown}
 use Rattle.rules.specs.Rules.{knownSide, knownType, knownQueue, ruleOf, queuesOf, chosen}
 
 -- a number that is none of the known ones

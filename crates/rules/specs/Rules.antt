@@ -7,12 +7,12 @@ use Rattle.questions.specs.declared.Reference.{Reference}
 use Rattle.questions.specs.declared.Reference.the-variants.{Missing}
 use Rattle.questions.specs.declared.Codes.{Codes}
 use Rattle.questions.specs.declared.References.{References}
-use Rattle.questions.specs.declared.Queues.{Queues}
-use Rattle.questions.specs.declared.Queues.the-variants.{Opening, Both, BuyOnly, SellOnly, Neither}
-use Rattle.questions.specs.declared.Rule.{Rule}
-use Rattle.questions.specs.declared.Rule.the-variants.{BuyLimit, BuyEnhanced, BuySpecial, SellLimit, SellEnhanced, SellSpecial}
-use Rattle.questions.specs.declared.Choice.{Choice}
-use Rattle.questions.specs.declared.Choice.the-variants.{Chosen, Unknown}
+use Rattle.rules.specs.declared.Queues.{Queues}
+use Rattle.rules.specs.declared.Queues.the-variants.{Opening, Both, BuyOnly, SellOnly, Neither}
+use Rattle.rules.specs.declared.Rule.{Rule}
+use Rattle.rules.specs.declared.Rule.the-variants.{BuyLimit, BuyEnhanced, BuySpecial, SellLimit, SellEnhanced, SellSpecial}
+use Rattle.rules.specs.declared.Choice.{Choice}
+use Rattle.rules.specs.declared.Choice.the-variants.{Chosen, Unknown}
 
 -- "the side (1 buy, 2 sell)"
 abbrev pub knownSide : ℕ → Bool

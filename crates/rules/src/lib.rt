@@ -1,12 +1,42 @@
-// The rule that the side, order type and queue code of a question choose together.
-use questions::Choice;
+// The rule that the side, order type and queue code of a question choose together, and the checks that depend on it.
+pub mod checks; // checks.rt: references that disagree, special orders with no opposite queue
+
 use questions::Codes;
-use questions::Queues;
 use questions::Reference;
 use questions::References;
-use questions::Rule;
 ghost use mathlib.Core.Path.{_≡_};
 ghost use Rattle.rules.specs.Rules.{chosen, askOf, bidOf};
+
+// The queues, as the queue code tells of them, with the current or last bid and ask that the rules look at then.
+pub enum Queues {
+    // No bid and no ask yet today.
+    Opening,
+    // The current bid, and the current ask.
+    Both(Reference, Reference),
+    // The current bid.
+    BuyOnly(Reference),
+    // The current ask.
+    SellOnly(Reference),
+    // The last bid, and the last ask.
+    Neither(Reference, Reference),
+}
+
+// The rule for an order, by its side and type. With the queues, which the queue code chooses, it gives the permitted range.
+pub enum Rule {
+    BuyLimit,
+    BuyEnhanced,
+    BuySpecial,
+    SellLimit,
+    SellEnhanced,
+    SellSpecial,
+}
+
+// What the codes of a question choose.
+pub enum Choice {
+    Chosen(Rule, Queues),
+    // No rule has these codes.
+    Unknown,
+}
 
 // The rule and the queues that the codes choose.
 pub fn choose(codes: Codes, references: References) -> Choice

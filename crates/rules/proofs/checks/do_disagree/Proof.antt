@@ -1,8 +1,8 @@
 -- Condition by condition.
 use borrow.Author.Needs.{needs}
-use Rattle.questions.specs.Checks.{disagree}
-use Rattle.questions.proofs.checks.do_disagree.Statement.{statement}
-use Rattle.questions.proofs.checks.do_disagree.Tie as tie
+use Rattle.rules.specs.Checks.{disagree}
+use Rattle.rules.proofs.checks.do_disagree.Statement.{statement}
+use Rattle.rules.proofs.checks.do_disagree.Tie as tie
 
 returns : tie.Need-returns
 unfolding disagree

@@ -1,7 +1,7 @@
 -- Case by case: only the opening asks.
 use borrow.Author.Needs.{needs}
-use Rattle.questions.proofs.checks.is_quoted_before.Statement.{statement}
-use Rattle.questions.proofs.checks.is_quoted_before.Tie as tie
+use Rattle.rules.proofs.checks.is_quoted_before.Statement.{statement}
+use Rattle.rules.proofs.checks.is_quoted_before.Tie as tie
 
 returns : tie.Need-returns
 returns c = rw (c .before .before .enum-told .given .1, c .before .is-present .ensures, c .is-present2 .ensures)

@@ -1,7 +1,7 @@
 -- Case by case: only with both queues are two prices compared.
 use borrow.Author.Needs.{needs}
-use Rattle.questions.proofs.checks.is_locked_or_crossed.Statement.{statement}
-use Rattle.questions.proofs.checks.is_locked_or_crossed.Tie as tie
+use Rattle.rules.proofs.checks.is_locked_or_crossed.Statement.{statement}
+use Rattle.rules.proofs.checks.is_locked_or_crossed.Tie as tie
 
 returns : tie.Need-returns
 returns c = rw (c .enum-told .given .1)
