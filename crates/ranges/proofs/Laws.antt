@@ -1,4 +1,4 @@
--- The law of specs/Laws.antt, proved.
+-- The laws of specs/Laws.antt, proved. Other crates see them as fields of range-laws.
 use mathlib.Core.Path.{_≡_, refl, ap}
 use Prim.Native.Nat.{ℕ}
 use mathlib.Core.Bool.{Bool, true, false, not, cond, _&&_}
@@ -6,7 +6,7 @@ use lib.Dec.{T, eqb}
 use Rattle.ladder.specs.Bands.{Table, wellFormed}
 use Rattle.ladder.specs.Ladder.{ladder, isLadderPrice}
 use Rattle.facts.proofs.Tests.{or-false, zero-is-one}
-use Rattle.ladder.proofs.Laws.{ends-are-the-tables}
+use Rattle.ladder.proofs.Laws.{ladder-laws}
 use Rattle.limits.specs.declared.Percentage.{Percentage}
 use Rattle.questions.specs.declared.Reference.{Reference}
 use Rattle.questions.specs.declared.Reference.the-variants.{Missing}
@@ -28,19 +28,25 @@ use Rattle.ranges.specs.declared.Reading.the-variants.{Permitted, Refuse
 use Rattle.ranges.specs.Bounds.{bottom, top}
 use Rattle.ranges.specs.Permitted.{buyReference, sellReference, lowestOf, highestOf, rangeOf}
 use Rattle.ranges.specs.Readings.{readingBy, readingOn, readingOf}
-use Rattle.ranges.specs.Laws.{EndsOnLadder, BoundsOnLadder}
-use Rattle.ranges.proofs.OnLadder.{On, on, least-on, greatest-on, price-on, above-on, below-on, low-on, high-on}
+use Rattle.ranges.specs.Laws.{On, StayOn, ReferencesStayOn, EndsOnLadder, BoundsOnLadder, RangeLaws}
+use Rattle.ranges.proofs.OnLadder.{above-on, below-on, stay-on}
 
-module _ (t : Table) (wf : T (wellFormed t)) where
+references-stay-on : ReferencesStayOn
+references-stay-on t wf percent = stay-on t wf percent
+
+module _ (t : Table) (wf : T (wellFormed t)) (percent : Percentage) where
+  stay : StayOn t percent
+  stay = stay-on t wf percent
+
   -- the references that rules look at are on the ladder, or missing
   record AllOn (r : References) : Type 0 where
-    current-bid : On t wf (r .«current_bid»)
-    current-ask : On t wf (r .«current_ask»)
-    last-bid : On t wf (r .«last_bid»)
-    last-ask : On t wf (r .«last_ask»)
-    previous-close : On t wf (r .«previous_close»)
-    day-low : On t wf (r .«day_low»)
-    day-high : On t wf (r .«day_high»)
+    current-bid : On t (r .«current_bid»)
+    current-ask : On t (r .«current_ask»)
+    last-bid : On t (r .«last_bid»)
+    last-ask : On t (r .«last_ask»)
+    previous-close : On t (r .«previous_close»)
+    day-low : On t (r .«day_low»)
+    day-high : On t (r .«day_high»)
 
   all-on : (r : References) → anyOff (ladder t) r ≡ false → AllOn r
   unfolding anyOff
@@ -53,27 +59,27 @@ module _ (t : Table) (wf : T (wellFormed t)) where
       let f = or-false _ (isOff (ladder t) (r .«last_bid»)) (e .0) in
       let g = or-false (isOff (ladder t) (r .«current_bid»)) (isOff (ladder t) (r .«current_ask»)) (f .0) in
       record {
-        current-bid = on t wf _ (g .0);
-        current-ask = on t wf _ (g .1);
-        last-bid = on t wf _ (f .1);
-        last-ask = on t wf _ (e .1);
-        previous-close = on t wf _ (d .1);
-        day-low = on t wf _ (c .1);
-        day-high = on t wf _ (b .1);
+        current-bid = stay .passed _ (g .0);
+        current-ask = stay .passed _ (g .1);
+        last-bid = stay .passed _ (f .1);
+        last-ask = stay .passed _ (e .1);
+        previous-close = stay .passed _ (d .1);
+        day-low = stay .passed _ (c .1);
+        day-high = stay .passed _ (b .1);
       }
 
   -- what is missing is not off it
-  none-on : On t wf Missing
+  none-on : On t Missing
   unfolding On
   none-on = tt
 
   -- so are those that the queues hold
   QueuesOn : Queues → Type 0
   QueuesOn Opening = Unit {0}
-  QueuesOn (Both bid ask) = On t wf bid × On t wf ask
-  QueuesOn (BuyOnly bid) = On t wf bid
-  QueuesOn (SellOnly ask) = On t wf ask
-  QueuesOn (Neither bid ask) = On t wf bid × On t wf ask
+  QueuesOn (Both bid ask) = On t bid × On t ask
+  QueuesOn (BuyOnly bid) = On t bid
+  QueuesOn (SellOnly ask) = On t ask
+  QueuesOn (Neither bid ask) = On t bid × On t ask
 
   queues-on : (code : ℕ) (r : References) → AllOn r → QueuesOn (queuesOf code r)
   unfolding QueuesOn
@@ -92,7 +98,7 @@ module _ (t : Table) (wf : T (wellFormed t)) where
       go false false false true = h .current-ask
       go false false false false = (h .last-bid, h .last-ask)
 
-  bid-on : (q : Queues) → QueuesOn q → On t wf (bidOf q)
+  bid-on : (q : Queues) → QueuesOn q → On t (bidOf q)
   unfolding QueuesOn
   bid-on Opening h = none-on
   bid-on (Both bid ask) h = h .0
@@ -100,7 +106,7 @@ module _ (t : Table) (wf : T (wellFormed t)) where
   bid-on (SellOnly ask) h = none-on
   bid-on (Neither bid ask) h = none-on
 
-  ask-on : (q : Queues) → QueuesOn q → On t wf (askOf q)
+  ask-on : (q : Queues) → QueuesOn q → On t (askOf q)
   unfolding QueuesOn
   ask-on Opening h = none-on
   ask-on (Both bid ask) h = h .1
@@ -109,50 +115,50 @@ module _ (t : Table) (wf : T (wellFormed t)) where
   ask-on (Neither bid ask) h = none-on
 
   -- a reference, or none
-  none-or : (v : Bool) (r : Reference) → On t wf r → On t wf (cond v Missing r)
+  none-or : (v : Bool) (r : Reference) → On t r → On t (cond v Missing r)
   none-or true r h = none-on
   none-or false r h = h
 
-  buy-on : (q : Queues) (close low : Reference) → QueuesOn q → On t wf close → On t wf low → On t wf (buyReference q close low)
+  buy-on : (q : Queues) (close low : Reference) → QueuesOn q → On t close → On t low → On t (buyReference q close low)
   unfolding QueuesOn
   buy-on Opening close low h k m = k
   buy-on (Both bid ask) close low h k m = h .0
   buy-on (BuyOnly bid) close low h k m = h
-  buy-on (SellOnly ask) close low h k m = least-on t wf _ _ h (least-on t wf _ _ k m)
-  buy-on (Neither bid ask) close low h k m = none-or (not (present close) && not (present low)) _ (least-on t wf _ _ (h .1) (least-on t wf _ _ k m))
+  buy-on (SellOnly ask) close low h k m = stay .least-on _ _ h (stay .least-on _ _ k m)
+  buy-on (Neither bid ask) close low h k m = none-or (not (present close) && not (present low)) _ (stay .least-on _ _ (h .1) (stay .least-on _ _ k m))
 
-  sell-on : (q : Queues) (close high : Reference) → QueuesOn q → On t wf close → On t wf high → On t wf (sellReference q close high)
+  sell-on : (q : Queues) (close high : Reference) → QueuesOn q → On t close → On t high → On t (sellReference q close high)
   unfolding QueuesOn
   sell-on Opening close high h k m = k
   sell-on (Both bid ask) close high h k m = h .1
   sell-on (SellOnly ask) close high h k m = h
-  sell-on (BuyOnly bid) close high h k m = greatest-on t wf _ _ h (greatest-on t wf _ _ k m)
-  sell-on (Neither bid ask) close high h k m = none-or (not (present close) && not (present high)) _ (greatest-on t wf _ _ (h .0) (greatest-on t wf _ _ k m))
+  sell-on (BuyOnly bid) close high h k m = stay .greatest-on _ _ h (stay .greatest-on _ _ k m)
+  sell-on (Neither bid ask) close high h k m = none-or (not (present close) && not (present high)) _ (stay .greatest-on _ _ (h .0) (stay .greatest-on _ _ k m))
 
-  module _ (percent : Percentage) (q : Queues) (r : References) (queues : QueuesOn q) (all : AllOn r) where
+  module _ (q : Queues) (r : References) (queues : QueuesOn q) (all : AllOn r) where
     -- a bound, or the end of the ladder
-    or-bottom : (x : Reference) → On t wf x → T (isLadderPrice (priceOr (bottom (ladder t)) x) t)
-    or-bottom x h = price-on t wf _ x (ends-are-the-tables t wf .first-on) h
+    or-bottom : (x : Reference) → On t x → T (isLadderPrice (priceOr (bottom (ladder t)) x) t)
+    or-bottom x h = stay .price-on _ x (ladder-laws .ends-are-the-tables t wf .first-on) h
 
-    or-top : (x : Reference) → On t wf x → T (isLadderPrice (priceOr (top (ladder t)) x) t)
-    or-top x h = price-on t wf _ x (ends-are-the-tables t wf .last-on) h
+    or-top : (x : Reference) → On t x → T (isLadderPrice (priceOr (top (ladder t)) x) t)
+    or-top x h = stay .price-on _ x (ladder-laws .ends-are-the-tables t wf .last-on) h
 
     lowest-on : (rule : Rule) → T (isLadderPrice (lowestOf (ladder t) percent rule q r) t)
     unfolding lowestOf
-    lowest-on BuyLimit = or-bottom _ (low-on t wf percent _ (buy-on q _ _ queues (all .previous-close) (all .day-low)))
-    lowest-on BuyEnhanced = or-bottom _ (low-on t wf percent _ (buy-on q _ _ queues (all .previous-close) (all .day-low)))
+    lowest-on BuyLimit = or-bottom _ (stay .lower-on _ (buy-on q _ _ queues (all .previous-close) (all .day-low)))
+    lowest-on BuyEnhanced = or-bottom _ (stay .lower-on _ (buy-on q _ _ queues (all .previous-close) (all .day-low)))
     lowest-on BuySpecial = or-bottom _ (ask-on q queues)
     lowest-on SellLimit = or-bottom _ (bid-on q queues)
     lowest-on SellEnhanced = or-bottom _ (below-on t wf _ (bid-on q queues))
-    lowest-on SellSpecial = ends-are-the-tables t wf .first-on
+    lowest-on SellSpecial = ladder-laws .ends-are-the-tables t wf .first-on
 
     highest-on : (rule : Rule) → T (isLadderPrice (highestOf (ladder t) percent rule q r) t)
     unfolding highestOf
     highest-on BuyLimit = or-top _ (ask-on q queues)
     highest-on BuyEnhanced = or-top _ (above-on t wf _ (ask-on q queues))
-    highest-on BuySpecial = ends-are-the-tables t wf .last-on
-    highest-on SellLimit = or-top _ (high-on t wf percent _ (sell-on q _ _ queues (all .previous-close) (all .day-high)))
-    highest-on SellEnhanced = or-top _ (high-on t wf percent _ (sell-on q _ _ queues (all .previous-close) (all .day-high)))
+    highest-on BuySpecial = ladder-laws .ends-are-the-tables t wf .last-on
+    highest-on SellLimit = or-top _ (stay .upper-on _ (sell-on q _ _ queues (all .previous-close) (all .day-high)))
+    highest-on SellEnhanced = or-top _ (stay .upper-on _ (sell-on q _ _ queues (all .previous-close) (all .day-high)))
     highest-on SellSpecial = or-top _ (bid-on q queues)
 
 -- the range of a reading; of a refusal none is asked for
@@ -163,7 +169,7 @@ rangeIn none (Refused refusal) = none
 refused-or-permitted : {C : Type 0} (x : Refusal) (range : Range) → Refused x ≡ Permitted range → C
 refused-or-permitted x range e = let n : _≡_ {A = ℕ} 0 1 = cc in absurd (zero-is-one n)
 
-pub bounds-on-ladder : BoundsOnLadder
+bounds-on-ladder : BoundsOnLadder
 unfolding readingOf chosen readingBy rangeOf rangeIn
 bounds-on-ladder t wf percent c r range = by-codes (unknownCode c)
   where
@@ -182,11 +188,14 @@ bounds-on-ladder t wf percent c r range = by-codes (unknownCode c)
     by-checks false true d e f = refused-or-permitted _ _ f
     by-checks false false true e f = refused-or-permitted _ _ f
     by-checks false false false e f =
-        let all = all-on t wf r e in
-        let queues = queues-on t wf (c .queue) r all in
+        let all = all-on t wf percent r e in
+        let queues = queues-on t wf percent (c .queue) r all in
         rw (← (ap (rangeIn range) f))
         (record { lowest-on = lowest-on t wf percent q r queues all rule; highest-on = highest-on t wf percent q r queues all rule })
 
     by-codes : (unknown : Bool) → readingOn (ladder t) percent (cond unknown Unknown (Chosen rule q)) r ≡ Permitted range → EndsOnLadder t range
     by-codes true e = refused-or-permitted _ _ e
     by-codes false e = by-checks (anyOff (ladder t) r) (disagree q r) (unopposed rule q) refl e
+
+pub range-laws : RangeLaws
+range-laws = record { references-stay-on = references-stay-on; bounds-on-ladder = bounds-on-ladder }

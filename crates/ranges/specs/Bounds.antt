@@ -1,4 +1,4 @@
--- "Low(R) and High(R) are the two limits", and nine spreads from a reference. What is missing stays missing.
+-- What bounds a range: the limits of a reference, and nine spreads from it. What is missing stays missing.
 -- Over any ladder l, the list of its prices, and any percentage.
 use Prim.Native.Nat.{ℕ}
 use Rattle.ladder.specs.Ladder.{Prices}
@@ -6,8 +6,6 @@ use Rattle.ladder.specs.declared.Found.{Found}
 use Rattle.ladder.specs.declared.Found.the-variants as found
 use Rattle.ladder.specs.Places.{firstPrice, lastPrice}
 use Rattle.ladder.specs.Spreads.{spreadsUp, spreadsDown}
-use Rattle.limits.specs.declared.Percentage.{Percentage}
-use Rattle.limits.specs.Limits.{lowOf, highOf}
 use Rattle.questions.specs.declared.Reference.{Reference}
 use Rattle.questions.specs.declared.Reference.the-variants.{Missing, Price}
 
@@ -17,23 +15,22 @@ abbrev pub asReference : Found → Reference
 asReference (found.Price p) = Price p
 asReference found.Nothing = Missing
 
--- the lower and the upper limit
-abbrev pub Low : Prices → Percentage → Reference → Reference
-Low l percent Missing = Missing
-Low l percent (Price r) = asReference (lowOf l (percent .scale) (percent .lower) r)
+-- what a limit or a step finds from a reference; from one that is missing, nothing. Document 01's Low(R) of a reference that may be missing
+-- is fromReference (lowerLimitFound l percent) R, and High(R) the same with upperLimitFound
+abbrev pub fromReference : (ℕ → Found) → Reference → Reference
+fromReference find Missing = Missing
+fromReference find (Price r) = asReference (find r)
 
-abbrev pub High : Prices → Percentage → Reference → Reference
-High l percent Missing = Missing
-High l percent (Price r) = asReference (highOf l (percent .scale) (percent .upper) r)
+-- how many spreads an enhanced limit order may go beyond the opposite queue
+abbrev pub enhancedSpreads : ℕ
+enhancedSpreads = 9
 
--- nine spreads above, and below
-abbrev pub nineSpreadsAbove : Prices → Reference → Reference
-nineSpreadsAbove l Missing = Missing
-nineSpreadsAbove l (Price r) = asReference (spreadsUp l r 9)
+-- so many spreads above a reference, and below
+abbrev pub enhancedAbove : Prices → Reference → Reference
+enhancedAbove l reference = fromReference (λ (r : ℕ). spreadsUp l r enhancedSpreads) reference
 
-abbrev pub nineSpreadsBelow : Prices → Reference → Reference
-nineSpreadsBelow l Missing = Missing
-nineSpreadsBelow l (Price r) = asReference (spreadsDown l r 9)
+abbrev pub enhancedBelow : Prices → Reference → Reference
+enhancedBelow l reference = fromReference (λ (r : ℕ). spreadsDown l r enhancedSpreads) reference
 
 -- "'Bottom' and 'top' are the ladder's ends."
 abbrev pub bottom : Prices → ℕ

@@ -3,6 +3,7 @@ use Prim.Native.Nat.{ℕ}
 use mathlib.Core.Bool.{not, cond, _&&_}
 use Rattle.ladder.specs.Ladder.{Prices}
 use Rattle.limits.specs.declared.Percentage.{Percentage}
+use Rattle.limits.specs.Limits.{lowerLimitFound, upperLimitFound}
 use Rattle.questions.specs.declared.Reference.{Reference}
 use Rattle.questions.specs.declared.Reference.the-variants.{Missing}
 use Rattle.questions.specs.declared.References.{References}
@@ -13,7 +14,11 @@ use Rattle.rules.specs.declared.Rule.the-variants.{BuyLimit, BuyEnhanced, BuySp
 use Rattle.questions.specs.Missing.{present, least, greatest, priceOr}
 use Rattle.rules.specs.Rules.{askOf, bidOf}
 use Rattle.ranges.specs.declared.Range.{Range}
-use Rattle.ranges.specs.Bounds.{Low, High, nineSpreadsAbove, nineSpreadsBelow, bottom, top}
+use Rattle.ranges.specs.Bounds.{fromReference, enhancedAbove, enhancedBelow, bottom, top}
+
+-- a reference, but none where these two are missing both
+abbrev pub unlessBothMissing : Reference → Reference → Reference → Reference
+unlessBothMissing a b reference = cond (not (present a) && not (present b)) Missing reference
 
 -- Buy, lowest: the lower limit of this reference, or bottom where it is missing.
 --   opening: the previous close;
@@ -25,7 +30,7 @@ buyReference Opening close low = close
 buyReference (Both bid ask) close low = bid
 buyReference (BuyOnly bid) close low = bid
 buyReference (SellOnly ask) close low = least ask (least close low)
-buyReference (Neither lastBid lastAsk) close low = cond (not (present close) && not (present low)) Missing (least lastAsk (least close low))
+buyReference (Neither lastBid lastAsk) close low = unlessBothMissing close low (least lastAsk (least close low))
 
 -- Sell, highest, the mirror: the upper limit of this reference, or top where it is missing.
 --   opening: the previous close;
@@ -37,13 +42,13 @@ sellReference Opening close high = close
 sellReference (Both bid ask) close high = ask
 sellReference (SellOnly ask) close high = ask
 sellReference (BuyOnly bid) close high = greatest bid (greatest close high)
-sellReference (Neither lastBid lastAsk) close high = cond (not (present close) && not (present high)) Missing (greatest lastBid (greatest close high))
+sellReference (Neither lastBid lastAsk) close high = unlessBothMissing close high (greatest lastBid (greatest close high))
 
 abbrev pub buyLowest : Prices → Percentage → Queues → References → ℕ
-buyLowest l percent q r = priceOr (bottom l) (Low l percent (buyReference q (r .«previous_close») (r .«day_low»)))
+buyLowest l percent q r = priceOr (bottom l) (fromReference (lowerLimitFound l percent) (buyReference q (r .«previous_close») (r .«day_low»)))
 
 abbrev pub sellHighest : Prices → Percentage → Queues → References → ℕ
-sellHighest l percent q r = priceOr (top l) (High l percent (sellReference q (r .«previous_close») (r .«day_high»)))
+sellHighest l percent q r = priceOr (top l) (fromReference (upperLimitFound l percent) (sellReference q (r .«previous_close») (r .«day_high»)))
 
 -- The permitted lowest. A special buy has an ask: check 5 asks for the sell queue, and check 4 for its price.
 unfoldable pub lowestOf : Prices → Percentage → Rule → Queues → References → ℕ
@@ -51,13 +56,13 @@ lowestOf l percent BuyLimit q r = buyLowest l percent q r
 lowestOf l percent BuyEnhanced q r = buyLowest l percent q r
 lowestOf l percent BuySpecial q r = priceOr (bottom l) (askOf q)
 lowestOf l percent SellLimit q r = priceOr (bottom l) (bidOf q)
-lowestOf l percent SellEnhanced q r = priceOr (bottom l) (nineSpreadsBelow l (bidOf q))
+lowestOf l percent SellEnhanced q r = priceOr (bottom l) (enhancedBelow l (bidOf q))
 lowestOf l percent SellSpecial q r = bottom l
 
 -- The permitted highest. A special sell has a bid, likewise.
 unfoldable pub highestOf : Prices → Percentage → Rule → Queues → References → ℕ
 highestOf l percent BuyLimit q r = priceOr (top l) (askOf q)
-highestOf l percent BuyEnhanced q r = priceOr (top l) (nineSpreadsAbove l (askOf q))
+highestOf l percent BuyEnhanced q r = priceOr (top l) (enhancedAbove l (askOf q))
 highestOf l percent BuySpecial q r = top l
 highestOf l percent SellLimit q r = sellHighest l percent q r
 highestOf l percent SellEnhanced q r = sellHighest l percent q r

@@ -8,7 +8,8 @@ use questions::Reference;
 ghost use mathlib.Core.Path.{_≡_};
 ghost use lib.Dec.{T};
 ghost use Rattle.ladder.specs.Layout.{isTable, pricesOf};
-ghost use Rattle.ranges.specs.Bounds.{asReference, Low, High, nineSpreadsAbove, nineSpreadsBelow};
+ghost use Rattle.limits.specs.Limits.{lowerLimitFound, upperLimitFound};
+ghost use Rattle.ranges.specs.Bounds.{asReference, fromReference, enhancedAbove, enhancedBelow};
 
 // How many spreads an enhanced limit order may go beyond the opposite queue.
 const ENHANCED_SPREADS: u64 = 9;
@@ -24,35 +25,31 @@ fn reference_found(found: Found) -> Reference
 }
 
 // The lower limit of a reference.
-pub fn low(table: &[u32], percentage: Percentage, reference: Reference) -> Reference
+pub fn lower_limit(table: &[u32], percentage: Percentage, reference: Reference) -> Reference
     requires { ⌜ T (isTable (now table)) ⌝ }
-    ensures { λ r. ⌜ r ≡ Low (pricesOf (now (table .entry))) percentage reference ⌝ }
+    ensures { λ r. ⌜ r ≡ fromReference (lowerLimitFound (pricesOf (now (table .entry))) percentage) reference ⌝ }
 {
     match reference {
         Reference::Missing => Reference::Missing,
-        Reference::Price(price) => {
-            reference_found(limit::lower(table, percentage.scale, percentage.lower, price))
-        }
+        Reference::Price(price) => { reference_found(limit::lower(table, percentage, price)) }
     }
 }
 
 // The upper limit of a reference.
-pub fn high(table: &[u32], percentage: Percentage, reference: Reference) -> Reference
+pub fn upper_limit(table: &[u32], percentage: Percentage, reference: Reference) -> Reference
     requires { ⌜ T (isTable (now table)) ⌝ }
-    ensures { λ r. ⌜ r ≡ High (pricesOf (now (table .entry))) percentage reference ⌝ }
+    ensures { λ r. ⌜ r ≡ fromReference (upperLimitFound (pricesOf (now (table .entry))) percentage) reference ⌝ }
 {
     match reference {
         Reference::Missing => Reference::Missing,
-        Reference::Price(price) => {
-            reference_found(limit::upper(table, percentage.scale, percentage.upper, price))
-        }
+        Reference::Price(price) => { reference_found(limit::upper(table, percentage, price)) }
     }
 }
 
-// Nine spreads above a reference.
-pub(crate) fn nine_spreads_above(table: &[u32], reference: Reference) -> Reference
+// As far above a reference as an enhanced limit buy may go.
+pub(crate) fn enhanced_above(table: &[u32], reference: Reference) -> Reference
     requires { ⌜ T (isTable (now table)) ⌝ }
-    ensures { λ r. ⌜ r ≡ nineSpreadsAbove (pricesOf (now (table .entry))) reference ⌝ }
+    ensures { λ r. ⌜ r ≡ enhancedAbove (pricesOf (now (table .entry))) reference ⌝ }
 {
     match reference {
         Reference::Missing => Reference::Missing,
@@ -60,10 +57,10 @@ pub(crate) fn nine_spreads_above(table: &[u32], reference: Reference) -> Referen
     }
 }
 
-// Nine spreads below a reference.
-pub(crate) fn nine_spreads_below(table: &[u32], reference: Reference) -> Reference
+// As far below a reference as an enhanced limit sell may go.
+pub(crate) fn enhanced_below(table: &[u32], reference: Reference) -> Reference
     requires { ⌜ T (isTable (now table)) ⌝ }
-    ensures { λ r. ⌜ r ≡ nineSpreadsBelow (pricesOf (now (table .entry))) reference ⌝ }
+    ensures { λ r. ⌜ r ≡ enhancedBelow (pricesOf (now (table .entry))) reference ⌝ }
 {
     match reference {
         Reference::Missing => Reference::Missing,

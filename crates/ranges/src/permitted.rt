@@ -11,7 +11,17 @@ use rules::Rule;
 ghost use mathlib.Core.Path.{_≡_};
 ghost use lib.Dec.{T};
 ghost use Rattle.ladder.specs.Layout.{isTable, pricesOf};
-ghost use Rattle.ranges.specs.Permitted.{buyReference, sellReference, buyLowest, sellHighest, lowestOf, highestOf, nineFoldReference, rangeOf};
+ghost use Rattle.ranges.specs.Permitted.{unlessBothMissing, buyReference, sellReference, buyLowest, sellHighest, lowestOf, highestOf, nineFoldReference, rangeOf};
+
+// A reference, but none where these two are missing both.
+fn unless_both_missing(a: Reference, b: Reference, reference: Reference) -> Reference
+    ensures { λ r. ⌜ r ≡ unlessBothMissing a b reference ⌝ }
+{
+    if !missing::is_present(a) & !missing::is_present(b) {
+        return Reference::Missing;
+    }
+    reference
+}
 
 // The reference whose lower limit is the lowest price of a buy; missing where that is the bottom.
 fn buy_reference(queues: Queues, close: Reference, low: Reference) -> Reference
@@ -23,11 +33,8 @@ fn buy_reference(queues: Queues, close: Reference, low: Reference) -> Reference
         Queues::BuyOnly(bid) => bid,
         Queues::SellOnly(ask) => missing::least_of(ask, missing::least_of(close, low)),
         Queues::Neither(_, last_ask) => {
-            if !missing::is_present(close) & !missing::is_present(low) {
-                Reference::Missing
-            } else {
-                missing::least_of(last_ask, missing::least_of(close, low))
-            }
+            let least = missing::least_of(last_ask, missing::least_of(close, low));
+            unless_both_missing(close, low, least)
         }
     }
 }
@@ -42,11 +49,8 @@ fn sell_reference(queues: Queues, close: Reference, high: Reference) -> Referenc
         Queues::BuyOnly(bid) => missing::greatest_of(bid, missing::greatest_of(close, high)),
         Queues::SellOnly(ask) => ask,
         Queues::Neither(last_bid, _) => {
-            if !missing::is_present(close) & !missing::is_present(high) {
-                Reference::Missing
-            } else {
-                missing::greatest_of(last_bid, missing::greatest_of(close, high))
-            }
+            let greatest = missing::greatest_of(last_bid, missing::greatest_of(close, high));
+            unless_both_missing(close, high, greatest)
         }
     }
 }
@@ -58,7 +62,7 @@ fn buy_lowest(table: &[u32], percentage: Percentage, queues: Queues, references:
 {
     let close = references.previous_close;
     let low = references.day_low;
-    let limit = bounds::low(table, percentage, buy_reference(queues, close, low));
+    let limit = bounds::lower_limit(table, percentage, buy_reference(queues, close, low));
     missing::price_or(limit, table::first_price(table))
 }
 
@@ -74,7 +78,7 @@ fn sell_highest(
 {
     let close = references.previous_close;
     let high = references.day_high;
-    let limit = bounds::high(table, percentage, sell_reference(queues, close, high));
+    let limit = bounds::upper_limit(table, percentage, sell_reference(queues, close, high));
     missing::price_or(limit, table::last_price(table))
 }
 
@@ -95,7 +99,7 @@ fn lowest_of(
         Rule::BuySpecial => missing::price_or(rules::ask_of(queues), bottom),
         Rule::SellLimit => missing::price_or(rules::bid_of(queues), bottom),
         Rule::SellEnhanced => missing::price_or(
-            bounds::nine_spreads_below(table, rules::bid_of(queues)),
+            bounds::enhanced_below(table, rules::bid_of(queues)),
             bottom,
         ),
         Rule::SellSpecial => bottom,
@@ -117,7 +121,7 @@ fn highest_of(
     match rule {
         Rule::BuyLimit => missing::price_or(rules::ask_of(queues), top),
         Rule::BuyEnhanced => missing::price_or(
-            bounds::nine_spreads_above(table, rules::ask_of(queues)),
+            bounds::enhanced_above(table, rules::ask_of(queues)),
             top,
         ),
         Rule::BuySpecial => top,

@@ -29,10 +29,10 @@ pub fn reading_of(
     if checks::any_off(table, references) {
         return Reading::Refused(Refusal::OffLadder);
     }
-    if checks::do_disagree(queues, references) {
+    if rules::checks::do_disagree(queues, references) {
         return Reading::Refused(Refusal::Disagreement);
     }
-    if checks::is_unopposed(rule, queues) {
+    if rules::checks::is_unopposed(rule, queues) {
         return Reading::Refused(Refusal::NoOpposite);
     }
     Reading::Permitted(permitted::range_of(table, percentage, rule, queues, references))

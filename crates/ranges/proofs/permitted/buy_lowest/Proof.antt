@@ -2,13 +2,13 @@
 use borrow.Author.Needs.{needs}
 use mathlib.Core.Path.{ap, ap₂, _∙_}
 use Rattle.questions.specs.Missing.{priceOr}
-use Rattle.ranges.specs.Bounds.{Low}
+use Rattle.ranges.specs.Bounds.{fromReference}
 use Rattle.ranges.proofs.permitted.buy_lowest.Statement.{statement}
 use Rattle.ranges.proofs.permitted.buy_lowest.Tie as tie
 
 returns : tie.Need-returns
 returns c =
-    c .price-or .ensures ∙ ap₂ priceOr (c .before .first-price .ensures) (c .before .before .low .ensures ∙ ap (Low _ _)
+    c .price-or .ensures ∙ ap₂ priceOr (c .before .first-price .ensures) (c .before .before .lower-limit .ensures ∙ ap (fromReference _)
     (c .before .before .before .buy-reference .ensures))
 
 pub buy-lowest-spec : {M : Type 1} → statement M

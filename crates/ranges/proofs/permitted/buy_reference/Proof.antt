@@ -8,27 +8,12 @@ returns-4 c = rw (c .before .before .before .queues3 .given .1, ← (c .before .
 
 returns-5 : tie.Need-returns-5
 returns-5 c =
-    rw (
-      c .before .before .before .before .queues4 .given .1,
-      ← (c .before .before .is-present .ensures),
-      ← (c .before .is-present2 .ensures),
-      c .if1 .taken,
-    )
-
-returns-6 : tie.Need-returns-6
-returns-6 c =
-    rw (
-      c .before .before .before .before .before .before .queues4 .given .1,
-      ← (c .before .before .before .before .is-present .ensures),
-      ← (c .before .before .before .is-present2 .ensures),
-      c .before .before .if1 .left,
-      ← (c .before .least-of3 .ensures),
-    )
-    (c .least-of4 .ensures)
+    rw (c .before .before .before .before .queues4 .given .1, ← (c .before .before .least-of3 .ensures), ← (c .before .least-of4 .ensures))
+    (c .unless-both-missing .ensures)
 
 pub buy-reference-spec : {M : Type 1} → statement M
 buy-reference-spec =
     tie.close
     (tie.spec (λ c. search needs) (λ c. search needs) (λ c. search needs) (λ c. search needs) (λ c κs. search needs)
     (λ c κs. search needs) (λ c. search needs) (λ c κs. search needs) (λ c κs. search needs) (λ c κs. search needs)
-    (λ c κs. search needs) (λ c. search needs) (λ c. search needs) (λ c. search needs) returns-4 returns-5 returns-6)
+    (λ c. search needs) (λ c. search needs) (λ c. search needs) returns-4 returns-5)

@@ -4,7 +4,7 @@ use mathlib.Core.Path.{_≡_, ap, ap₂, _∙_}
 use denote.Ref.{now}
 use Rattle.ladder.specs.Layout.{pricesOf}
 use Rattle.questions.specs.Missing.{priceOr}
-use Rattle.ranges.specs.Bounds.{nineSpreadsAbove}
+use Rattle.ranges.specs.Bounds.{enhancedAbove}
 use Rattle.ranges.specs.Permitted.{highestOf}
 use Rattle.ranges.proofs.Pairs.{selling}
 use Rattle.ranges.proofs.permitted.highest_of.Statement.{statement}
@@ -20,7 +20,7 @@ returns-2 : tie.Need-returns-2
 unfolding highestOf
 returns-2 c =
     rw (c .before .before .before .enum-told2 .given .1) (c .price-or2 .ensures ∙ ap₂ priceOr
-    (c .before .before .before .before .before .last-price .ensures) (c .before .nine-spreads-above .ensures ∙ ap (nineSpreadsAbove _)
+    (c .before .before .before .before .before .last-price .ensures) (c .before .enhanced-above .ensures ∙ ap (enhancedAbove _)
     (c .before .before .ask-of2 .ensures)))
 
 returns-3 : tie.Need-returns-3

@@ -4,7 +4,7 @@ use mathlib.Core.Path.{_≡_, ap, ap₂, _∙_}
 use denote.Ref.{now}
 use Rattle.ladder.specs.Layout.{pricesOf}
 use Rattle.questions.specs.Missing.{priceOr}
-use Rattle.ranges.specs.Bounds.{nineSpreadsBelow}
+use Rattle.ranges.specs.Bounds.{enhancedBelow}
 use Rattle.ranges.specs.Permitted.{lowestOf}
 use Rattle.ranges.proofs.Pairs.{buying}
 use Rattle.ranges.proofs.permitted.lowest_of.Statement.{statement}
@@ -34,7 +34,7 @@ returns-4 : tie.Need-returns-4
 unfolding lowestOf
 returns-4 c =
     rw (c .before .before .before .enum-told3 .given .1) (c .price-or3 .ensures ∙ ap₂ priceOr
-    (c .before .before .before .before .before .first-price .ensures) (c .before .nine-spreads-below .ensures ∙ ap (nineSpreadsBelow _)
+    (c .before .before .before .before .before .first-price .ensures) (c .before .enhanced-below .ensures ∙ ap (enhancedBelow _)
     (c .before .before .bid-of2 .ensures)))
 
 returns-5 : tie.Need-returns-5

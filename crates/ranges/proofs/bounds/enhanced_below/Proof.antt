@@ -1,14 +1,14 @@
--- Nine spreads down from what is there.
+-- Spreads down from what is there.
 use borrow.Author.Needs.{needs}
 use mathlib.Core.Path.{ap, _∙_}
 use Rattle.ranges.specs.Bounds.{asReference}
-use Rattle.ranges.proofs.bounds.nine_spreads_below.Statement.{statement}
-use Rattle.ranges.proofs.bounds.nine_spreads_below.Tie as tie
+use Rattle.ranges.proofs.bounds.enhanced_below.Statement.{statement}
+use Rattle.ranges.proofs.bounds.enhanced_below.Tie as tie
 
 returns-2 : tie.Need-returns-2
 returns-2 c = rw (c .before .before .before .reference .given .1) (c .reference-found .ensures ∙ ap asReference (c .before .down .ensures))
 
-pub nine-spreads-below-spec : {M : Type 1} → statement M
-nine-spreads-below-spec =
+pub enhanced-below-spec : {M : Type 1} → statement M
+enhanced-below-spec =
     tie.close
     (tie.spec (λ c. search needs) (λ c. search needs) (λ c κs. search needs) (λ c κs. search needs) (λ c. search needs) returns-2)
