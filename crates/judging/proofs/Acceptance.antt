@@ -1,16 +1,13 @@
 -- What the verdict accepts: ladder prices that are shown, and nothing else.
 use mathlib.Core.Path.{_≡_, refl}
-use Prim.Native.Nat.{ℕ, _<_}
-use borrow.Author.Tests.{leb-true, leb-false, lt-ltb, le-ltb}
-use mathlib.Core.Logic.{⊎-elim}
-use native.Mathlib.Omega.{arith}
+use Prim.Native.Nat.{ℕ}
+use borrow.Author.Tests.{le-ltb}
 use mathlib.Core.Bool.{Bool, true, false, not, cond, _&&_}
-use mathlib.Core.List.{List}
-use lib.Dec.{T, eqb, leb, ltb, ltb→lt}
-use Rattle.facts.specs.Lists.{holds, Rising}
-use Rattle.ladder.specs.Places.{firstPrice, lastPrice}
-use Rattle.facts.proofs.Tests.{or-cases, failed, zero-is-one}
-use Rattle.ladder.proofs.Lists.Ends.{over-first, under-last}
+use lib.Dec.{T, eqb, leb}
+use Rattle.facts.proofs.Tests.{below, true-is-false}
+use Rattle.ladder.specs.Bands.{Table, wellFormed}
+use Rattle.ladder.specs.Ladder.{ladder, isLadderPrice}
+use Rattle.ladder.proofs.Laws.{ladder-laws}
 use Rattle.ranges.specs.declared.Range.{Range}
 use Rattle.judging.specs.declared.Verdict.{Verdict}
 use Rattle.judging.specs.declared.Verdict.the-variants.{Accepted, OutsideLadder, BetweenPrices, BelowLowest, AboveHighest, NineFold}
@@ -19,37 +16,24 @@ use Rattle.judging.specs.Verdicts.{outside, verdictOf}
 use Rattle.judging.specs.Numbers.{verdictNumber}
 use Rattle.judging.specs.Laws.{notRefused}
 
--- a price on the ladder is not outside its ends
-inside : (l : List ℕ) → Rising l → (p : ℕ) → T (holds p l) → outside l p ≡ false
-inside l r p h =
-    let a = over-first l r p h in
-    let b = under-last l r p h in
-    failed (outside l p)
-    (λ t.
-    ⊎-elim (λ u. let m : p < firstPrice l = ltb→lt p (firstPrice l) u in omega arith)
-    (λ u. let m : lastPrice l < p = ltb→lt (lastPrice l) p u in omega arith)
-    (or-cases (ltb p (firstPrice l)) (ltb (lastPrice l) p) t))
+-- a ladder price is not outside the ends
+inside : (t : Table) → T (wellFormed t) → (p : ℕ) → T (isLadderPrice p t) → outside (ladder t) p ≡ false
+inside t wf p h =
+    let ends = ladder-laws .ends-are-the-tables t wf in
+    rw (le-ltb _ _ (ends .none-below p h), le-ltb _ _ (ends .none-above p h))
 
--- a is below b exactly where b is not at most a
-pub below : (a b : ℕ) → ltb a b ≡ not (leb b a)
-below a b = go (leb b a) refl
-  where
-    go : (v : Bool) → leb b a ≡ v → ltb a b ≡ not v
-    go true e = le-ltb a b (leb-true b a e)
-    go false e = lt-ltb a b (leb-false b a e)
-
-pub accepts : (l : List ℕ) → Rising l → (range : Range) (p : ℕ) →
-    eqb (verdictNumber (verdictOf l range p)) 0 ≡ (holds p l && isShown range p)
+pub accepts : (t : Table) → T (wellFormed t) → (range : Range) (p : ℕ) →
+    eqb (verdictNumber (verdictOf (ladder t) range p)) 0 ≡ (isLadderPrice p t && isShown range p)
 unfolding verdictOf
-accepts l r range p =
-    rw (below p (range .lowest), below (range .highest) p)
-    (go (outside l p) (holds p l) (leb (range .lowest) p) (leb p (range .highest)) (passes (range .«nine_fold») p) (inside l r p))
+accepts t wf range p =
+    rw (ladder-laws .the-ladder t wf p, below p (range .lowest), below (range .highest) p)
+    (go (outside (ladder t) p) (isLadderPrice p t) (leb (range .lowest) p) (leb p (range .highest)) (passes (range .«nine_fold») p) (inside t wf p))
   where
     go : (o h x y z : Bool) → (T h → o ≡ false) →
         eqb (verdictNumber
         (cond o OutsideLadder (cond (not h) BetweenPrices (cond (not x) BelowLowest (cond (not y) AboveHighest (cond (not z) NineFold Accepted)))))) 0 ≡
         (h && (x && y && z))
-    go true true x y z f = let e : true ≡ false = f tt in let n : _≡_ {A = ℕ} 0 1 = cc in absurd (zero-is-one n)
+    go true true x y z f = true-is-false (f tt)
     go true false x y z f = refl
     go false false x y z f = refl
     go false true false y z f = refl

@@ -1,4 +1,4 @@
--- The laws of specs/Laws.antt, proved.
+-- The laws of specs/Laws.antt, proved. Other crates see them as fields of judging-laws.
 use mathlib.Core.Logic.{_⊎_, inl, inr}
 use mathlib.Core.Path.{_≡_, refl, _∙_}
 use Prim.Native.Nat.{ℕ, _≤_, _<_}
@@ -12,11 +12,10 @@ use Rattle.ladder.specs.Bands.{Table, wellFormed}
 use Rattle.ladder.specs.Ladder.{ladder, isLadderPrice}
 use Rattle.ladder.specs.declared.Found.{Found}
 use Rattle.ladder.specs.declared.Found.the-variants.{Price, Nothing}
-use Rattle.facts.specs.Lists.{holds}
 use Rattle.ladder.specs.Search.{first, latest, orElse}
-use Rattle.ladder.proofs.Lists.Extremes.{Result, Least, Greatest, first-result, latest-result}
+use Rattle.ladder.specs.Laws.{Finds, Least, Greatest}
 use Rattle.facts.proofs.Tests.{and-left, and-right, true-of}
-use Rattle.ladder.proofs.Laws.{the-ladder, rising, never-zero, listed}
+use Rattle.ladder.proofs.Laws.{ladder-laws}
 use Rattle.limits.specs.declared.Percentage.{Percentage}
 use Rattle.questions.specs.declared.Decoded.{Decoded}
 use Rattle.questions.specs.declared.Decoded.the-variants.{Asked, WrongLength}
@@ -40,36 +39,39 @@ use Rattle.judging.proofs.Windows.{exactly}
 use Rattle.judging.proofs.Acceptance.{accepts, judged-number}
 use Rattle.judging.proofs.Fields.{same-codes, same-references}
 
-pub shown-is-exactly : ShownIsExactly
+shown-is-exactly : ShownIsExactly
 unfolding shownOf
 shown-is-exactly t wf range p on =
-    exactly (ladder t) (rising t wf) (isShown range) (cutLowest (range .lowest) (range .«nine_fold»)) (cutHighest (range .highest) (range .«nine_fold»))
-    (window t wf range _ _ refl refl) p (listed t wf p on) (never-zero t wf p on)
+    exactly t wf (isShown range) (cutLowest (range .lowest) (range .«nine_fold»)) (cutHighest (range .highest) (range .«nine_fold»))
+    (window t wf range _ _ refl refl) p on
 
 -- ---- a range, or none
 
 range-shown : (t : Table) → T (wellFormed t) → (range : Range) (p : ℕ) →
     LadderRange t (answerOn (ladder t) range p) ⊎ ((answerOn (ladder t) range p .lowest ≡ 0) × (answerOn (ladder t) range p .highest ≡ 0))
 unfolding shownOf
-range-shown t wf range p =
-    go (first (isShown range) (ladder t)) (latest (isShown range) (ladder t)) (first-result (isShown range) (ladder t) (rising t wf))
-    (latest-result (isShown range) (ladder t) (rising t wf))
+range-shown t wf range p = go (first (isShown range) (ladder t)) (latest (isShown range) (ladder t)) refl refl
   where
     n : ℕ
     n = verdictNumber (verdictOf (ladder t) range p)
 
-    on : (q : ℕ) → T (holds q (ladder t)) → T (isLadderPrice q t)
-    on q h = rw (the-ladder t wf q) at h
+    smallest : Finds Least t (isShown range) (first (isShown range) (ladder t))
+    smallest = ladder-laws .first-is-smallest t wf (isShown range)
 
-    go : (f g : Found) → Result Least (isShown range) (ladder t) f → Result Greatest (isShown range) (ladder t) g →
+    largest : Finds Greatest t (isShown range) (latest (isShown range) (ladder t))
+    largest = ladder-laws .latest-is-largest t wf (isShown range)
+
+    go : (f g : Found) → first (isShown range) (ladder t) ≡ f → latest (isShown range) (ladder t) ≡ g →
         LadderRange t (record { number = n; lowest = orElse 0 f; highest = orElse 0 g }) ⊎ ((orElse 0 f ≡ 0) × (orElse 0 g ≡ 0))
-    go (Price a) (Price b) u v =
-        inl (record { lowest-on = on a (u .on); highest-on = on b (v .on); rises = u .extreme b (v .on) (v .passes) })
-    go (Price a) Nothing u v = absurd (v a (u .on) (u .passes))
-    go Nothing (Price b) u v = absurd (u b (v .on) (v .passes))
-    go Nothing Nothing u v = inr (refl, refl)
+    go (Price a) (Price b) e f =
+        let u = smallest .found a e in
+        let v = largest .found b f in
+        inl (record { lowest-on = u .on; highest-on = v .on; rises = u .extreme b (v .on) (v .passes) })
+    go (Price a) Nothing e f = let u = smallest .found a e in absurd (largest .nothing f a (u .on) (u .passes))
+    go Nothing (Price b) e f = let v = largest .found b f in absurd (smallest .nothing e b (v .on) (v .passes))
+    go Nothing Nothing e f = inr (refl, refl)
 
-pub range-or-none : RangeOrNone
+range-or-none : RangeOrNone
 unfolding judged
 range-or-none t wf percent s = go (decoded s)
   where
@@ -88,9 +90,9 @@ range-or-none t wf percent s = go (decoded s)
 
 -- on the ladder and shown, or on the ladder from the lowest shown to the highest shown
 from-lowest-to-highest : (t : Table) → T (wellFormed t) → (range : Range) (p : ℕ) →
-    (holds p (ladder t) && isShown range p) ≡
+    (isLadderPrice p t && isShown range p) ≡
     (isLadderPrice p t && leb (shownOf (ladder t) range .lowest) p && leb p (shownOf (ladder t) range .highest))
-from-lowest-to-highest t wf range p = rw (the-ladder t wf p) (go (isLadderPrice p t) (shown-is-exactly t wf range p))
+from-lowest-to-highest t wf range p = go (isLadderPrice p t) (shown-is-exactly t wf range p)
   where
     go : (on : Bool) →
         (T on → isShown range p ≡ (leb (shownOf (ladder t) range .lowest) p && leb p (shownOf (ladder t) range .highest))) →
@@ -122,10 +124,10 @@ none-up-to-zero t wf n p lowest highest e high accepted =
     let h : T (isLadderPrice p t && leb lowest p && leb p highest) = rw e at (true-of (eqb n 0) (eq-eqb n 0 accepted)) in
     let on : T (isLadderPrice p t) = and-left (isLadderPrice p t) (leb lowest p) (and-left (isLadderPrice p t && leb lowest p) (leb p highest) h) in
     let up-to : p ≤ highest = leb→le p highest (and-right (isLadderPrice p t && leb lowest p) (leb p highest) h) in
-    let over : 0 < p = never-zero t wf p on in
+    let over : 0 < p = ladder-laws .never-zero t wf p on in
     omega arith
 
-pub any-order-price : AnyOrderPrice
+any-order-price : AnyOrderPrice
 any-order-price t wf percent s u ns nu same h =
     go (readingOf (ladder t) percent (codesOf s) (referencesOf s)) (by-reading (ladder t) percent s ns)
     (by-reading (ladder t) percent u nu ∙ rw (same-codes s u same, same-references s u same))
@@ -149,7 +151,7 @@ any-order-price t wf percent s u ns nu same h =
         accepted :
             eqb (judged (ladder t) percent u .number) 0 ≡
             (isLadderPrice p t && leb (judged (ladder t) percent s .lowest) p && leb p (judged (ladder t) percent s .highest))
-        accepted = rw (a, b) (accepts (ladder t) (rising t wf) range p ∙ from-lowest-to-highest t wf range p)
+        accepted = rw (a, b) (accepts t wf range p ∙ from-lowest-to-highest t wf range p)
 
 -- ---- numbers
 
@@ -183,7 +185,7 @@ refusal-shows-none l (Permitted range) p h = absurd (go (verdictOf l range p) h)
     go NineFold h = h
 refusal-shows-none l (Refused refusal) p h = refl
 
-pub question-numbers : QuestionNumbers
+question-numbers : QuestionNumbers
 question-numbers l percent s =
     record {
       of-a-question = λ n. rw (by-reading l percent s n) (by-any-reading l (readingOf l percent (codesOf s) (referencesOf s)) (priceOf s));

@@ -7,6 +7,7 @@ use Rattle.questions.specs.declared.Decoded.{Decoded}
 use Rattle.questions.specs.declared.Decoded.the-variants.{Asked, WrongLength}
 use Rattle.questions.specs.Record.{Bytes, decoded}
 use Rattle.ranges.specs.declared.Range.{Range}
+use Rattle.ranges.specs.declared.Refusal.{Refusal}
 use Rattle.ranges.specs.declared.Reading.{Reading}
 use Rattle.ranges.specs.declared.Reading.the-variants.{Permitted, Refused}
 use Rattle.ranges.specs.Readings.{readingOf}
@@ -20,6 +21,9 @@ use Rattle.judging.specs.Numbers.{wrongLength, refusalNumber, verdictNum
 abbrev pub noneShown : ℕ → Answer
 noneShown n = record { number = n; lowest = 0; highest = 0 }
 
+abbrev pub refusedAnswer : Refusal → Answer
+refusedAnswer refusal = noneShown (refusalNumber refusal)
+
 -- "Answers 0 and 6 to 10 show the range."
 abbrev pub answerWith : ℕ → Shown → Answer
 answerWith n shown = record { number = n; lowest = shown .lowest; highest = shown .highest }
@@ -30,7 +34,7 @@ answerOn l range p = answerWith (verdictNumber (verdictOf l range p)) (shownOf l
 -- the answer to a price, by the reading of its question
 abbrev pub answerBy : Prices → Reading → ℕ → Answer
 answerBy l (Permitted range) p = answerOn l range p
-answerBy l (Refused refusal) p = noneShown (refusalNumber refusal)
+answerBy l (Refused refusal) p = refusedAnswer refusal
 
 -- the answer to a question: by its reading, and its order price
 abbrev pub answerTo : Prices → Percentage → Question → Answer

@@ -8,14 +8,15 @@ use Rattle.ladder.specs.declared.Found.the-variants as found
 use Rattle.questions.specs.declared.Reference.{Reference}
 use Rattle.questions.specs.declared.Reference.the-variants.{Missing, Price}
 use Rattle.judging.specs.declared.Shown.{Shown}
+use Rattle.judging.specs.Shown.{fold}
 
 abbrev pub cutLowest : ℕ → Reference → ℕ
 cutLowest lowest Missing = lowest
-cutLowest lowest (Price n) = max lowest (n / 9 + 1)
+cutLowest lowest (Price n) = max lowest (n / fold + 1)
 
 abbrev pub cutHighest : ℕ → Reference → ℕ
 cutHighest highest Missing = highest
-cutHighest highest (Price n) = min highest (9 * n - 1)
+cutHighest highest (Price n) = min highest (fold * n - 1)
 
 -- the range from one price to another, or 0 and 0 where one of them was not found, or they do not rise
 abbrev pub noneBetween : Shown

@@ -1,4 +1,5 @@
--- The laws of judging. Each is proved in proofs/Laws.antt: AnyOrderPrice as any-order-price, and so on.
+-- The laws of judging. Each is a field of the record JudgingLaws at the end, which proofs/Laws.antt proves as judging-laws: AnyOrderPrice is
+-- the field any-order-price.
 use mathlib.Core.Logic.{_⊎_}
 use mathlib.Core.Path.{_≡_}
 use Prim.Native.Nat.{ℕ, _≤_, _<_}
@@ -77,7 +78,8 @@ pub record Numbers (a : Answer) (s : Bytes) : Type 0 where
 abbrev pub QuestionNumbers : Type 0
 QuestionNumbers = (l : Prices) (percent : Percentage) (s : Bytes) → Numbers (judged l percent s) s
 
--- All of them.
+-- ---- all of them
+
 pub record JudgingLaws : Type 0 where
   pub shown-is-exactly : ShownIsExactly
   pub range-or-none : RangeOrNone

@@ -2,8 +2,6 @@
 use Prim.Native.Nat.{ℕ}
 use Rattle.ranges.specs.declared.Refusal.{Refusal}
 use Rattle.ranges.specs.declared.Refusal.the-variants.{UnknownCode, OffLadder, Disagreement, NoOpposite}
-use Rattle.ranges.specs.declared.Reading.{Reading}
-use Rattle.ranges.specs.declared.Reading.the-variants.{Permitted, Refused}
 use Rattle.judging.specs.declared.Verdict.{Verdict}
 use Rattle.judging.specs.declared.Verdict.the-variants.{Accepted, OutsideLadder, BetweenPrices, BelowLowest, AboveHighest, NineFold}
 
@@ -17,11 +15,6 @@ refusalNumber UnknownCode = 2
 refusalNumber OffLadder = 3
 refusalNumber Disagreement = 4
 refusalNumber NoOpposite = 5
-
--- 0 for a reading that is not refused: there is no verdict yet
-abbrev pub readingNumber : Reading → ℕ
-readingNumber (Permitted range) = 0
-readingNumber (Refused refusal) = refusalNumber refusal
 
 -- "Number 0 is acceptance." The client who enters the order: 6 to 10
 abbrev pub verdictNumber : Verdict → ℕ

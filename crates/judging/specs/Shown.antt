@@ -9,10 +9,14 @@ use Rattle.questions.specs.declared.Reference.the-variants.{Missing, Price}
 use Rattle.ranges.specs.declared.Range.{Range}
 use Rattle.judging.specs.declared.Shown.{Shown}
 
+-- a price fails where it is so many times its reference or more, or so small a part of it or less
+abbrev pub fold : ℕ
+fold = 9
+
 -- "price p passes against N when p is less than 9 times N and 9 times p is more than N .. a missing N passes all"
 abbrev pub passes : Reference → ℕ → Bool
 passes Missing p = true
-passes (Price n) p = ltb p (9 * n) && ltb n (9 * p)
+passes (Price n) p = ltb p (fold * n) && ltb n (fold * p)
 
 -- p is in the permitted range, and passes
 abbrev pub isShown : Range → ℕ → Bool

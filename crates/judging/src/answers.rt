@@ -1,4 +1,4 @@
-// The numbers of readings and verdicts, and the answers.
+// The numbers of refusals and verdicts, and the answers.
 use super::Answer;
 use super::Shown;
 use super::Verdict;
@@ -16,8 +16,8 @@ ghost use lib.Dec.{T};
 ghost use Rattle.ladder.specs.Layout.{isTable, pricesOf};
 ghost use Rattle.facts.specs.Lists.{holds};
 ghost use Rattle.judging.specs.Verdicts.{verdictOf};
-ghost use Rattle.judging.specs.Numbers.{refusalNumber, readingNumber, verdictNumber};
-ghost use Rattle.judging.specs.Answers.{noneShown, answerWith, answerOn, judged};
+ghost use Rattle.judging.specs.Numbers.{refusalNumber, verdictNumber};
+ghost use Rattle.judging.specs.Answers.{noneShown, refusedAnswer, answerWith, answerOn, judged};
 
 // The answer number for bytes that are no question.
 const WRONG_LENGTH: u32 = 1;
@@ -31,16 +31,6 @@ pub fn refusal_number(refusal: Refusal) -> u32
         Refusal::OffLadder => 3,
         Refusal::Disagreement => 4,
         Refusal::NoOpposite => 5,
-    }
-}
-
-// The number of a reading: 0 where it is not refused, and no verdict is given yet.
-pub fn reading_number(reading: Reading) -> u32
-    ensures { λ r. ⌜ r ≡ readingNumber reading ⌝ }
-{
-    match reading {
-        Reading::Permitted(_) => 0,
-        Reading::Refused(refusal) => refusal_number(refusal),
     }
 }
 
@@ -67,6 +57,13 @@ pub fn none_shown(number: u32) -> Answer
         lowest: 0,
         highest: 0,
     }
+}
+
+// The answer to a question that is refused.
+pub fn refused(refusal: Refusal) -> Answer
+    ensures { λ r. ⌜ r ≡ refusedAnswer refusal ⌝ }
+{
+    none_shown(refusal_number(refusal))
 }
 
 // The number of the verdict on a price against a range.
@@ -121,7 +118,7 @@ pub fn judge(table: &[u32], percentage: Percentage, question: &[u8]) -> Answer
     let references = asked.references;
     let reading = readings::reading_of(table, percentage, codes, references);
     let Reading::Permitted(range) = reading else {
-        return none_shown(reading_number(reading));
+        return refused(readings::refusal_of(reading));
     };
     answer_permitted(table, range, asked.price)
 }

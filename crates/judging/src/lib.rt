@@ -4,7 +4,7 @@
 // hold for every well-formed one. Prices are whole mils.
 pub mod showing; // showing.rt: the nine-fold rule and the shown range
 pub mod verdicts; // verdicts.rt: the verdict on a price
-pub mod answers; // answers.rt: the numbers of readings and verdicts, and the answers
+pub mod answers; // answers.rt: the numbers of refusals and verdicts, and the answers
 
 use limits::five_percent;
 use questions::Codes;

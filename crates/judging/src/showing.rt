@@ -11,8 +11,11 @@ ghost use lib.Dec.{T};
 ghost use Rattle.ladder.specs.Layout.{isTable, pricesOf};
 ghost use Rattle.facts.specs.Lists.{holds};
 ghost use Rattle.ladder.specs.Search.{first, latest, atLeast, atMost};
-ghost use Rattle.judging.specs.Shown.{passes, shownOf};
+ghost use Rattle.judging.specs.Shown.{fold, passes, shownOf};
 ghost use Rattle.judging.specs.Cutting.{cutLowest, cutHighest, shownBetween};
+
+// A price fails where it is so many times its reference or more, or so small a part of it or less.
+const FOLD: u32 = 9;
 
 // No range.
 const NONE: Shown = Shown {
@@ -27,7 +30,8 @@ pub fn does_pass(nine_fold: Reference, price: u32) -> bool
     match nine_fold {
         Reference::Missing => true,
         Reference::Price(n) => {
-            ((price as u64) < numbers::product(9, n)) & ((n as u64) < numbers::product(9, price))
+            ((price as u64) < numbers::product(FOLD, n))
+                & ((n as u64) < numbers::product(FOLD, price))
         }
     }
 }
@@ -38,15 +42,15 @@ fn cut_lowest(lowest: u32, nine_fold: Reference) -> u32
 {
     match nine_fold {
         Reference::Missing => lowest,
-        Reference::Price(n) => numbers::larger(lowest, n / 9 + 1),
+        Reference::Price(n) => numbers::larger(lowest, n / FOLD + 1),
     }
 }
 
-// The smaller of a number and 9 n - 1.
-fn below_nine_times(highest: u32, n: u32) -> u32
-    ensures { λ r. ⌜ r ≡ min highest (9 * n - 1) ⌝ }
+// The smaller of a number and the last that is under nine times n.
+fn below_fold(highest: u32, n: u32) -> u32
+    ensures { λ r. ⌜ r ≡ min highest (fold * n - 1) ⌝ }
 {
-    let bound = numbers::product(9, n);
+    let bound = numbers::product(FOLD, n);
     if (highest as u64) < bound {
         return highest;
     }
@@ -59,7 +63,7 @@ fn cut_highest(highest: u32, nine_fold: Reference) -> u32
 {
     match nine_fold {
         Reference::Missing => highest,
-        Reference::Price(n) => below_nine_times(highest, n),
+        Reference::Price(n) => below_fold(highest, n),
     }
 }
 

@@ -1,6 +1,6 @@
 -- The reading of a question: "Checks run in number order; the first that applies is the answer". Checks 2 to 5, then the permitted
 -- range. The order price plays no part in it.
-use mathlib.Core.Bool.{cond}
+use mathlib.Core.Bool.{Bool, true, false, cond}
 use Rattle.ladder.specs.Ladder.{Prices}
 use Rattle.limits.specs.declared.Percentage.{Percentage}
 use Rattle.questions.specs.declared.Codes.{Codes}
@@ -33,3 +33,8 @@ readingOn l percent (Chosen rule q) r = readingBy l percent rule q r
 -- the reading of codes and references
 unfoldable pub readingOf : Prices → Percentage → Codes → References → Reading
 readingOf l percent c r = readingOn l percent (chosen c r) r
+
+-- a reading that has no range
+abbrev pub isRefused : Reading → Bool
+isRefused (Permitted range) = false
+isRefused (Refused refusal) = true

@@ -10,7 +10,8 @@ use rules::Choice;
 ghost use mathlib.Core.Path.{_≡_};
 ghost use lib.Dec.{T};
 ghost use Rattle.ladder.specs.Layout.{isTable, pricesOf};
-ghost use Rattle.ranges.specs.Readings.{readingOf};
+ghost use Rattle.ranges.specs.declared.Reading.the-variants.{Refused};
+ghost use Rattle.ranges.specs.Readings.{readingOf, isRefused};
 
 // The reading of a question's codes and references.
 pub fn reading_of(
@@ -36,4 +37,16 @@ pub fn reading_of(
         return Reading::Refused(Refusal::NoOpposite);
     }
     Reading::Permitted(permitted::range_of(table, percentage, rule, queues, references))
+}
+
+// Why a reading has no range.
+pub fn refusal_of(reading: Reading) -> Refusal
+    requires { ⌜ T (isRefused reading) ⌝ }
+    ensures { λ r. ⌜ reading ≡ Refused r ⌝ }
+{
+    match reading {
+        // Never: such a reading is not refused.
+        Reading::Permitted(_) => Refusal::UnknownCode,
+        Reading::Refused(refusal) => refusal,
+    }
 }
