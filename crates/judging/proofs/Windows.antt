@@ -75,6 +75,7 @@ module _ (t : Table) (wf : T (wellFormed t)) (test : ℕ → Bool) (from to : �
     where
       smallest : Finds Least t test (first test (ladder t))
       smallest = ladder-laws .first-is-smallest t wf test
+
       largest : Finds Greatest t test (latest test (ladder t))
       largest = ladder-laws .latest-is-largest t wf test
 

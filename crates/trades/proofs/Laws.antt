@@ -1,4 +1,4 @@
--- The laws of specs/Laws.antt, proved.
+-- The laws of specs/Laws.antt, proved. Other crates see them as fields of trade-laws.
 use mathlib.Core.Path.{_≡_, refl}
 use Prim.Native.Nat.{ℕ, _≤_}
 use native.Mathlib.Omega.{arith}
@@ -8,20 +8,19 @@ use borrow.Author.Tests.{le-ltb}
 use Rattle.ladder.specs.Bands.{Table, wellFormed}
 use Rattle.ladder.specs.Ladder.{Prices, ladder, isLadderPrice}
 use Rattle.ladder.specs.Places.{firstPrice, lastPrice}
-use Rattle.facts.proofs.Tests.{and-left, and-right, or-false, zero-is-one}
-use Rattle.ladder.proofs.Lists.Ends.{over-first, under-last}
-use Rattle.ladder.proofs.Laws.{rising, listed, ends-are-the-tables}
+use Rattle.facts.proofs.Tests.{and-left, and-right, or-false, true-is-false, below}
+use Rattle.ladder.proofs.Laws.{ladder-laws}
 use Rattle.limits.specs.declared.Percentage.{Percentage}
+use Rattle.limits.specs.Limits.{lowerLimitFound, upperLimitFound}
 use Rattle.questions.specs.Checks.{isOff, badPair}
 use Rattle.ranges.specs.declared.Range.{Range}
 use Rattle.ranges.specs.declared.Reading.the-variants.{Permitted, Refused}
 use Rattle.ranges.specs.declared.Refusal.the-variants.{OffLadder, Disagreement}
-use Rattle.ranges.specs.Bounds.{Low, High}
-use Rattle.ranges.proofs.OnLadder.{on, least-on, greatest-on, price-on, low-on, high-on}
+use Rattle.ranges.specs.Bounds.{fromReference}
+use Rattle.ranges.proofs.Laws.{range-laws}
 use Rattle.judging.specs.declared.Verdict.the-variants.{Accepted, OutsideLadder, BelowLowest, AboveHighest}
 use Rattle.judging.specs.Verdicts.{outside, belowLowest, aboveHighest}
 use Rattle.judging.specs.Numbers.{verdictNumber}
-use Rattle.judging.proofs.Acceptance.{below}
 use Rattle.trades.specs.declared.TradeReferences.{TradeReferences}
 use Rattle.trades.specs.Trades.{anyTradeOff, tradeDisagrees, tradeRange, tradeReading, tradeVerdict, tradeBy, tradeJudged}
 use Rattle.trades.specs.Laws.{isTradeRefusal, Numbers, TradeNumbers, FromTo, TradeRange, TradeLaws}
@@ -39,7 +38,7 @@ priced l range p = go (outside l p) (belowLowest range p) (aboveHighest range p)
     go false false true = record { one-of = tt; refused = λ h. absurd h }
     go false false false = record { one-of = tt; refused = λ h. absurd h }
 
-pub trade-numbers : TradeNumbers
+trade-numbers : TradeNumbers
 unfolding tradeJudged tradeReading
 trade-numbers l percent p d = go (anyTradeOff l d) (tradeDisagrees d)
   where
@@ -63,13 +62,13 @@ accepts t wf range p low high =
     within h =
         let a : range .lowest ≤ p = leb→le (range .lowest) p (and-left (leb (range .lowest) p) _ h) in
         let b : p ≤ range .highest = leb→le p (range .highest) (and-right (leb (range .lowest) p) _ h) in
-        let first = over-first (ladder t) (rising t wf) (range .lowest) (listed t wf _ low) in
-        let last = under-last (ladder t) (rising t wf) (range .highest) (listed t wf _ high) in
+        let first = ladder-laws .ends-are-the-tables t wf .none-below (range .lowest) low in
+        let last = ladder-laws .ends-are-the-tables t wf .none-above (range .highest) high in
         rw (le-ltb p (firstPrice (ladder t)) (omega arith), le-ltb (lastPrice (ladder t)) p (omega arith))
 
     go : (o x y : Bool) → (T (x && y) → o ≡ false) →
         eqb (verdictNumber (cond o OutsideLadder (cond (not x) BelowLowest (cond (not y) AboveHighest Accepted)))) 0 ≡ (x && y)
-    go true true true f = let e : true ≡ false = f tt in let n : _≡_ {A = ℕ} 0 1 = cc in absurd (zero-is-one n)
+    go true true true f = true-is-false (f tt)
     go true true false f = refl
     go true false y f = refl
     go false false y f = refl
@@ -84,31 +83,33 @@ module _ (t : Table) (wf : T (wellFormed t)) (percent : Percentage) (r : TradeRe
       let b = or-false _ (isOff (ladder t) (r .«highest_bid»)) (a .0) in
       let c = or-false _ (isOff (ladder t) (r .«lowest_ask»)) (b .0) in
       let d = or-false (isOff (ladder t) (r .«previous_close»)) (isOff (ladder t) (r .«lowest_bid»)) (c .0) in
-      let close = on t wf (r .«previous_close») (d .0) in
-      let ends = ends-are-the-tables t wf in
+      let stay = range-laws .references-stay-on t wf percent in
+      let close = stay .passed (r .«previous_close») (d .0) in
+      let ends = ladder-laws .ends-are-the-tables t wf in
       let low =
-      price-on t wf _ _ (ends .first-on)
-      (least-on t wf _ _ (low-on t wf percent _ close) (least-on t wf _ _ (on t wf (r .«lowest_bid») (d .1)) (on t wf (r .«lowest_ask») (c .1)))) in
+      stay .price-on _ _ (ends .first-on)
+      (stay .least-on _ _ (stay .lower-on _ close) (stay .least-on _ _ (stay .passed (r .«lowest_bid») (d .1)) (stay .passed (r .«lowest_ask») (c .1)))) in
       let high =
-      price-on t wf _ _ (ends .last-on)
-      (greatest-on t wf _ _ (high-on t wf percent _ close) (greatest-on t wf _ _ (on t wf (r .«highest_bid») (b .1)) (on t wf (r .«highest_ask») (a .1)))) in
+      stay .price-on _ _ (ends .last-on)
+      (stay .greatest-on _ _ (stay .upper-on _ close) (stay .greatest-on _ _ (stay .passed (r .«highest_bid») (b .1)) (stay .passed (r .«highest_ask») (a .1)))) in
       let pairs = or-false (badPair (r .«lowest_bid») (r .«highest_bid»)) (badPair (r .«lowest_ask») (r .«highest_ask»)) disagrees in
-      let first-below-last = over-first (ladder t) (rising t wf) (lastPrice (ladder t)) (listed t wf _ (ends .last-on)) in
+      let first-below-last = ends .none-below (lastPrice (ladder t)) (ends .last-on) in
       record {
         range =
             record {
               lowest-on = low;
               highest-on = high;
               rises =
-                  range-rises (firstPrice (ladder t)) (lastPrice (ladder t)) first-below-last (Low (ladder t) percent (r .«previous_close»)) (r .«lowest_bid»)
-                  (r .«lowest_ask») (High (ladder t) percent (r .«previous_close»)) (r .«highest_bid») (r .«highest_ask»)
+                  range-rises (firstPrice (ladder t)) (lastPrice (ladder t)) first-below-last
+                  (fromReference (lowerLimitFound (ladder t) percent) (r .«previous_close»)) (r .«lowest_bid»)
+                  (r .«lowest_ask») (fromReference (upperLimitFound (ladder t) percent) (r .«previous_close»)) (r .«highest_bid») (r .«highest_ask»)
                   (limits-paired t wf percent _ close)
                   (paired _ _ (pairs .0)) (paired _ _ (pairs .1));
             };
         accepted = accepts t wf (tradeRange (ladder t) percent r) p low high;
       }
 
-pub trade-range : TradeRange
+trade-range : TradeRange
 unfolding tradeJudged tradeReading
 trade-range t wf percent p r not-refused = go (anyTradeOff (ladder t) r) (tradeDisagrees r) refl refl not-refused
   where

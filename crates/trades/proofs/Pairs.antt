@@ -1,24 +1,25 @@
 -- References of a trade: in pairs of a low and a high, and the range that they make.
 use mathlib.Core.Path.{_≡_}
 use Prim.Native.Nat.{ℕ, _≤_}
+use native.Mathlib.Nat.{le-trans}
 use native.Mathlib.Omega.{arith}
-use mathlib.Core.Bool.{true, false}
+use mathlib.Core.Bool.{false}
 use lib.Dec.{T}
 use borrow.Author.Tests.{ltb-false}
 use Rattle.ladder.specs.Bands.{Table, wellFormed}
 use Rattle.ladder.specs.Ladder.{ladder}
-use Rattle.facts.proofs.Tests.{zero-is-one}
+use Rattle.ladder.proofs.Laws.{ladder-laws}
+use Rattle.facts.specs.Lists.{holds}
+use Rattle.facts.proofs.Tests.{true-is-false}
 use Rattle.limits.specs.declared.Percentage.{Percentage}
-use Rattle.limits.proofs.Laws.{limits-enclose}
+use Rattle.limits.specs.Limits.{lowerLimit, upperLimit, lowerLimitFound, upperLimitFound}
+use Rattle.limits.proofs.Laws.{limit-laws}
 use Rattle.questions.specs.declared.Reference.{Reference}
 use Rattle.questions.specs.declared.Reference.the-variants.{Missing, Price}
 use Rattle.questions.specs.Missing.{least, greatest, priceOr}
 use Rattle.questions.specs.Checks.{badPair}
-use Rattle.ranges.specs.Bounds.{Low, High}
-use Rattle.ranges.proofs.OnLadder.{On, low-is, high-is}
-
-true-is-false : {C : Type 0} → true ≡ false → C
-true-is-false e = let n : _≡_ {A = ℕ} 0 1 = cc in absurd (zero-is-one n)
+use Rattle.ranges.specs.Bounds.{fromReference}
+use Rattle.ranges.specs.Laws.{On}
 
 -- ---- pairs
 
@@ -51,12 +52,14 @@ range-rises bottom top m (Price a) (Price b) (Price c) (Price x) (Price y) (Pric
 
 -- ---- the limits of a reference on the ladder
 
-module _ (t : Table) (wf : T (wellFormed t)) (percent : Percentage) where
-  pub limits-paired : (close : Reference) → On t wf close → Paired (Low (ladder t) percent close) (High (ladder t) percent close)
-  unfolding On Paired
-  limits-paired Missing h = tt
-  limits-paired (Price c) h =
-      let e = limits-enclose t wf (percent .scale) (percent .lower) (percent .upper) c h in
-      let low-below = e .low-below in
-      let high-above = e .high-above in
-      rw (low-is t wf percent c h, high-is t wf percent c h) (omega arith)
+pub limits-paired : (t : Table) → T (wellFormed t) → (percent : Percentage) (close : Reference) → On t close →
+    Paired (fromReference (lowerLimitFound (ladder t) percent) close) (fromReference (upperLimitFound (ladder t) percent) close)
+unfolding On Paired
+limits-paired t wf percent Missing h = tt
+limits-paired t wf percent (Price c) h =
+    let held : T (holds c (ladder t)) = rw (ladder-laws .the-ladder t wf c) h in
+    let encloses = limit-laws .limits-enclose t wf percent c h in
+    rw (
+      ladder-laws .only-from-the-ladder c (ladder t) (lowerLimit (ladder t) percent c) .held held,
+      ladder-laws .only-from-the-ladder c (ladder t) (upperLimit (ladder t) percent c) .held held,
+    ) (le-trans (encloses .lower-below) (encloses .upper-above))

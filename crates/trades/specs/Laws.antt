@@ -1,4 +1,5 @@
--- The laws of trades. Each is proved in proofs/Laws.antt: TradeNumbers as trade-numbers, and so on.
+-- The laws of trades. Each is a field of the record TradeLaws at the end, which proofs/Laws.antt proves as trade-laws: TradeNumbers is the
+-- field trade-numbers.
 use mathlib.Core.Path.{_≡_}
 use Prim.Native.Nat.{ℕ}
 use mathlib.Core.Bool.{Bool, _&&_, _||_}
@@ -35,7 +36,8 @@ TradeRange =
     (t : Table) → T (wellFormed t) → (percent : Percentage) (p : ℕ) (r : TradeReferences) →
     (T (isTradeRefusal (tradeJudged (ladder t) percent p r .number)) → ⊥) → FromTo t (tradeJudged (ladder t) percent p r) p
 
--- All of them.
+-- ---- all of them
+
 pub record TradeLaws : Type 0 where
   pub trade-numbers : TradeNumbers
   pub trade-range : TradeRange

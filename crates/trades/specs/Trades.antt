@@ -4,6 +4,7 @@ use Prim.Native.Nat.{ℕ}
 use mathlib.Core.Bool.{Bool, cond, _||_}
 use Rattle.ladder.specs.Ladder.{Prices}
 use Rattle.limits.specs.declared.Percentage.{Percentage}
+use Rattle.limits.specs.Limits.{lowerLimitFound, upperLimitFound}
 use Rattle.questions.specs.declared.Reference.the-variants.{Missing}
 use Rattle.questions.specs.Missing.{referenceOf, least, greatest, priceOr}
 use Rattle.questions.specs.Checks.{isOff, badPair}
@@ -11,13 +12,13 @@ use Rattle.ranges.specs.declared.Range.{Range}
 use Rattle.ranges.specs.declared.Refusal.the-variants.{OffLadder, Disagreement}
 use Rattle.ranges.specs.declared.Reading.{Reading}
 use Rattle.ranges.specs.declared.Reading.the-variants.{Permitted, Refused}
-use Rattle.ranges.specs.Bounds.{Low, High, bottom, top}
+use Rattle.ranges.specs.Bounds.{fromReference, bottom, top}
 use Rattle.judging.specs.declared.Answer.{Answer}
 use Rattle.judging.specs.declared.Verdict.{Verdict}
 use Rattle.judging.specs.declared.Verdict.the-variants.{Accepted, OutsideLadder, BelowLowest, AboveHighest}
 use Rattle.judging.specs.Verdicts.{outside, belowLowest, aboveHighest}
-use Rattle.judging.specs.Numbers.{refusalNumber, verdictNumber}
-use Rattle.judging.specs.Answers.{noneShown}
+use Rattle.judging.specs.Numbers.{verdictNumber}
+use Rattle.judging.specs.Answers.{refusedAnswer}
 use Rattle.trades.specs.declared.TradeReferences.{TradeReferences}
 
 -- "After the trade price, 0 means missing."
@@ -44,10 +45,12 @@ tradeDisagrees r = badPair (r .«lowest_bid») (r .«highest_bid») || badPair (
 -- "Lowest is the least of Low(previous close), lowest bid, lowest ask; highest the greatest of High(previous close), highest bid,
 -- highest ask. Missing ones are skipped; if all are missing the range is the whole ladder."
 abbrev pub tradeLowest : Prices → Percentage → TradeReferences → ℕ
-tradeLowest l percent r = priceOr (bottom l) (least (Low l percent (r .«previous_close»)) (least (r .«lowest_bid») (r .«lowest_ask»)))
+tradeLowest l percent r =
+    priceOr (bottom l) (least (fromReference (lowerLimitFound l percent) (r .«previous_close»)) (least (r .«lowest_bid») (r .«lowest_ask»)))
 
 abbrev pub tradeHighest : Prices → Percentage → TradeReferences → ℕ
-tradeHighest l percent r = priceOr (top l) (greatest (High l percent (r .«previous_close»)) (greatest (r .«highest_bid») (r .«highest_ask»)))
+tradeHighest l percent r =
+    priceOr (top l) (greatest (fromReference (upperLimitFound l percent) (r .«previous_close»)) (greatest (r .«highest_bid») (r .«highest_ask»)))
 
 -- the range of a trade; the nine-fold rule is for orders
 abbrev pub tradeRange : Prices → Percentage → TradeReferences → Range
@@ -72,7 +75,7 @@ tradeVerdict l range p =
 abbrev pub tradeBy : Prices → Reading → ℕ → Answer
 tradeBy l (Permitted range) p =
     record { number = verdictNumber (tradeVerdict l range p); lowest = range .lowest; highest = range .highest }
-tradeBy l (Refused refusal) p = noneShown (refusalNumber refusal)
+tradeBy l (Refused refusal) p = refusedAnswer refusal
 
 unfoldable pub tradeJudged : Prices → Percentage → ℕ → TradeReferences → Answer
 tradeJudged l percent p r = tradeBy l (tradeReading l percent r) p

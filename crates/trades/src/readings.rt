@@ -69,7 +69,7 @@ fn lowest_of(table: &[u32], percentage: Percentage, references: TradeReferences)
     let close = references.previous_close;
     let bid = references.lowest_bid;
     let ask = references.lowest_ask;
-    let limit = bounds::low(table, percentage, close);
+    let limit = bounds::lower_limit(table, percentage, close);
     let least = missing::least_of(limit, missing::least_of(bid, ask));
     missing::price_or(least, table::first_price(table))
 }
@@ -82,7 +82,7 @@ fn highest_of(table: &[u32], percentage: Percentage, references: TradeReferences
     let close = references.previous_close;
     let bid = references.highest_bid;
     let ask = references.highest_ask;
-    let limit = bounds::high(table, percentage, close);
+    let limit = bounds::upper_limit(table, percentage, close);
     let greatest = missing::greatest_of(limit, missing::greatest_of(bid, ask));
     missing::price_or(greatest, table::last_price(table))
 }

@@ -42,7 +42,7 @@ pub fn judge(
 {
     let reading = readings::reading_of(table, percentage, references);
     let Reading::Permitted(range) = reading else {
-        return answers::none_shown(answers::reading_number(reading));
+        return answers::refused(ranges::readings::refusal_of(reading));
     };
     let verdict = verdict_on(table, range, price);
     Answer {

@@ -8,7 +8,7 @@ use Rattle.trades.proofs.readings.highest_of.Tie as tie
 returns : tie.Need-returns
 returns c =
     c .price-or .ensures ∙ ap₂ priceOr (c .before .last-price .ensures) (c .before .before .greatest-of2 .ensures ∙ ap₂ greatest
-    (c .before .before .before .before .high .ensures) (c .before .before .before .greatest-of .ensures))
+    (c .before .before .before .before .upper-limit .ensures) (c .before .before .before .greatest-of .ensures))
 
 pub highest-of-spec : {M : Type 1} → statement M
 highest-of-spec =

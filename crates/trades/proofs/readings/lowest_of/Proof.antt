@@ -8,7 +8,7 @@ use Rattle.trades.proofs.readings.lowest_of.Tie as tie
 returns : tie.Need-returns
 returns c =
     c .price-or .ensures ∙ ap₂ priceOr (c .before .first-price .ensures) (c .before .before .least-of2 .ensures ∙ ap₂ least
-    (c .before .before .before .before .low .ensures) (c .before .before .before .least-of .ensures))
+    (c .before .before .before .before .lower-limit .ensures) (c .before .before .before .least-of .ensures))
 
 pub lowest-of-spec : {M : Type 1} → statement M
 lowest-of-spec =

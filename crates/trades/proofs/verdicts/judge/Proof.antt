@@ -1,17 +1,16 @@
 -- By the reading.
 use borrow.Author.Needs.{needs}
-use mathlib.Core.Path.{ap, _∙_}
-use Rattle.judging.specs.Numbers.{readingNumber}
-use Rattle.judging.specs.Answers.{noneShown}
 use Rattle.trades.specs.Trades.{tradeJudged}
 use Rattle.trades.proofs.verdicts.judge.Statement.{statement}
 use Rattle.trades.proofs.verdicts.judge.Tie as tie
 
+-- the reading is refused
+refusal-of-requires : tie.Need-refusal-of-requires
+refusal-of-requires c κs = rw (c .enum-told .given .1) tt
+
 returns : tie.Need-returns
 unfolding tradeJudged
-returns c =
-    let told = c .before .before .enum-told .given .1 in rw (← (c .before .before .before .before .reading-of .ensures), told)
-    (c .none-shown .ensures ∙ ap noneShown (c .before .reading-number .ensures ∙ ap readingNumber told))
+returns c = rw (← (c .before .before .before .before .reading-of .ensures), c .before .refusal-of .ensures) (c .refused .ensures)
 
 returns-2 : tie.Need-returns-2
 unfolding tradeJudged
@@ -26,5 +25,5 @@ returns-2 c =
 pub judge-spec : {M : Type 1} → statement M
 judge-spec =
     tie.close
-    (tie.spec (λ c κs. search needs) (λ c. search needs) (λ c. search needs) (λ c κs. search needs) (λ c κs. search needs) returns
+    (tie.spec (λ c κs. search needs) (λ c. search needs) (λ c. search needs) refusal-of-requires (λ c κs. search needs) returns
     (λ c κs. search needs) (λ c κs. search needs) returns-2)
