@@ -1,4 +1,4 @@
--- The laws of specs/Laws.antt, proved.
+-- The laws of specs/Laws.antt, proved. Other crates see them as fields of batch-laws.
 use mathlib.Core.Path.{_≡_, refl, sym, _∙_, ap, subst}
 use mathlib.Core.Logic.{_⊎_, ⊎-elim}
 use Prim.Native.Nat.{ℕ, zero, suc, _+_, _*_, _/_, _%_, _≤_, _<_}
@@ -14,14 +14,13 @@ use Rattle.ladder.specs.Bands.{Table, wellFormed}
 use Rattle.ladder.specs.Ladder.{ladder, isLadderPrice}
 use Rattle.ladder.specs.Places.{lastPrice}
 use Rattle.facts.proofs.Tests.{passed, and-right, or-cases}
-use Rattle.ladder.proofs.Lists.Ends.{under-last}
-use Rattle.ladder.proofs.Laws.{rising, listed}
+use Rattle.ladder.proofs.Laws.{ladder-laws}
 use Rattle.limits.specs.declared.Percentage.{Percentage}
 use Rattle.questions.specs.Record.{questionBytes, number, countOf, questionAt}
 use Rattle.judging.specs.declared.Answer.{Answer}
 use Rattle.judging.specs.Answers.{judged}
 use Rattle.judging.specs.Laws.{notRefused, isQuestionNumber}
-use Rattle.judging.proofs.Laws.{range-or-none, question-numbers, any-order-price}
+use Rattle.judging.proofs.Laws.{judging-laws}
 use Rattle.batch.specs.Record.{answerBytes, encoded, answerAt}
 use Rattle.batch.specs.Batch.{refused, answersTo, answered, bufferAfter}
 use Rattle.batch.specs.Laws.{isJudged, AnswerAlone, AnswerReadsBack, SameBut, OthersKept, AnyOrderPriceInBatch, BatchLaws}
@@ -55,7 +54,7 @@ part-of l percent s rest (suc n) k h =
         rw (e, drop-at (answersTo l percent n s) (answer ++ rest) (n * answerBytes) (length-answers l percent s n))
         (take-at answer rest answerBytes (length-encoded (judged l percent (questionAt n s))))
 
-pub answer-alone : AnswerAlone
+answer-alone : AnswerAlone
 answer-alone l percent s a h k m = rw (buffer-is l percent s a h) (part-of l percent s _ (countOf (length s)) k m)
 
 -- ---- the numbers of an answer
@@ -111,29 +110,29 @@ small-number n h =
 
 module _ (t : Table) (wf : T (wellFormed t)) (fits : lastPrice (ladder t) < 4294967296) where
   small-price : (p : ℕ) → T (isLadderPrice p t) → p < 4294967296
-  small-price p on = let m = under-last (ladder t) (rising t wf) p (listed t wf p on) in omega arith
+  small-price p on = let m = ladder-laws .ends-are-the-tables t wf .none-above p on in omega arith
 
   whole-answer : (percent : Percentage) (q : List ℕ) → length q ≡ questionBytes → answerAt 0 (encoded (judged (ladder t) percent q)) ≡ judged (ladder t) percent q
   whole-answer percent q n =
-      let number = small-number (judged (ladder t) percent q .number) (question-numbers (ladder t) percent q .of-a-question n) in
+      let number = small-number (judged (ladder t) percent q .number) (judging-laws .question-numbers (ladder t) percent q .of-a-question n) in
       ⊎-elim
       (λ r. reads-back (judged (ladder t) percent q) number (small-price _ (r .lowest-on)) (small-price _ (r .highest-on)))
       (λ none.
       reads-back (judged (ladder t) percent q) number (rw (none .0) (omega arith)) (rw (none .1) (omega arith)))
-      (range-or-none t wf percent q)
+      (judging-laws .range-or-none t wf percent q)
 
-pub answer-reads-back : AnswerReadsBack
+answer-reads-back : AnswerReadsBack
 answer-reads-back t wf fits percent s a h k m =
     sym (answer-of (bufferAfter (ladder t) percent s a) (k * answerBytes)) ∙
     ap (answerAt 0) (answer-alone (ladder t) percent s a h k m) ∙
     whole-answer t wf fits percent (questionAt k s) (length-question s k m)
 
-pub any-order-price-in-batch : AnyOrderPriceInBatch
+any-order-price-in-batch : AnyOrderPriceInBatch
 any-order-price-in-batch t wf fits percent s u a b h i k m n same judged-before =
     let first = answer-reads-back t wf fits percent s a h k m in
     let second = answer-reads-back t wf fits percent u b i k n in
     rw (first, second)
-    (any-order-price t wf percent (questionAt k s) (questionAt k u) (length-question s k m) (length-question u k n) same
+    (judging-laws .any-order-price t wf percent (questionAt k s) (questionAt k u) (length-question s k m) (length-question u k n) same
     (subst (λ (x : Answer). T (notRefused (x .number))) first judged-before))
 
 -- ---- one question changed
@@ -156,7 +155,7 @@ module _ (l : List ℕ) (percent : Percentage) (j : ℕ) (s u : List ℕ) (same 
           rw (same-question j n s u same (eqb-false n j e))
           (followed answerBytes j (answersTo l percent n s) (answersTo l percent n u) (answer u) so-far)
 
-pub others-kept : OthersKept
+others-kept : OthersKept
 others-kept l percent j s u a same =
     record { outcome = rw (same .same-length); buffer = rw (same .same-length) (go (refused (length u) (length a))) }
   where

@@ -1,4 +1,5 @@
--- The laws of a batch. Each is proved in proofs/Laws.antt: AnswerAlone as answer-alone, and so on.
+-- The laws of a batch. Each is a field of the record BatchLaws at the end, which proofs/Laws.antt proves as batch-laws: AnswerAlone is the
+-- field answer-alone.
 use mathlib.Core.Path.{_≡_}
 use Prim.Native.Nat.{ℕ, suc, _*_, _≤_, _<_}
 use mathlib.Core.Bool.{Bool, not}
@@ -55,7 +56,8 @@ AnyOrderPriceInBatch =
     SameRange t (answerAt (k * answerBytes) (bufferAfter (ladder t) percent s a)) (answerAt (k * answerBytes) (bufferAfter (ladder t) percent u b))
     (priceOf (questionAt k u))
 
--- All of them.
+-- ---- all of them
+
 pub record BatchLaws : Type 0 where
   pub answer-alone : AnswerAlone
   pub answer-reads-back : AnswerReadsBack

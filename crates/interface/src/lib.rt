@@ -8,7 +8,7 @@ ghost use Rattle.ladder.specs.Bands.{phase1};
 ghost use Rattle.ladder.specs.Ladder.{ladder};
 ghost use Rattle.ladder.specs.Places.{priceAt, placeOf};
 ghost use Rattle.ladder.specs.Spreads.{spreadsUp, spreadsDown};
-ghost use Rattle.limits.specs.Limits.{fivePercent, fivePercentLower, fivePercentUpper, lowerLimit, upperLimit};
+ghost use Rattle.limits.specs.Limits.{fivePercent, percentLowerFound, percentUpperFound, lowerLimitFound, upperLimitFound};
 ghost use Rattle.judging.specs.Answers.{judged};
 ghost use Rattle.trades.specs.Trades.{tradeReferencesOf, tradeJudged};
 ghost use Rattle.interface.specs.Results.{priceFound, placeFound};
@@ -92,7 +92,7 @@ pub extern "C" fn hendovita_place_of(price: u32) -> PlaceFound
 // The lower limit of a reference; none off the ladder.
 #[no_mangle]
 pub extern "C" fn hendovita_lower_limit(reference: u32) -> PriceFound
-    ensures { λ r. ⌜ r ≡ priceFound (lowerLimit (ladder phase1) reference) ⌝ }
+    ensures { λ r. ⌜ r ≡ priceFound (lowerLimitFound (ladder phase1) fivePercent reference) ⌝ }
 {
     results::price_found(limits::lower_limit(reference))
 }
@@ -100,7 +100,7 @@ pub extern "C" fn hendovita_lower_limit(reference: u32) -> PriceFound
 // The upper limit of a reference; none off the ladder.
 #[no_mangle]
 pub extern "C" fn hendovita_upper_limit(reference: u32) -> PriceFound
-    ensures { λ r. ⌜ r ≡ priceFound (upperLimit (ladder phase1) reference) ⌝ }
+    ensures { λ r. ⌜ r ≡ priceFound (upperLimitFound (ladder phase1) fivePercent reference) ⌝ }
 {
     results::price_found(limits::upper_limit(reference))
 }
@@ -108,7 +108,7 @@ pub extern "C" fn hendovita_upper_limit(reference: u32) -> PriceFound
 // The lower 5 percent limit of a reference, before 24 spreads are looked at; none off the ladder.
 #[no_mangle]
 pub extern "C" fn hendovita_five_percent_lower(reference: u32) -> PriceFound
-    ensures { λ r. ⌜ r ≡ priceFound (fivePercentLower (ladder phase1) reference) ⌝ }
+    ensures { λ r. ⌜ r ≡ priceFound (percentLowerFound (ladder phase1) fivePercent reference) ⌝ }
 {
     results::price_found(limits::five_percent_lower(reference))
 }
@@ -116,7 +116,7 @@ pub extern "C" fn hendovita_five_percent_lower(reference: u32) -> PriceFound
 // The upper 5 percent limit of a reference, before 24 spreads are looked at; none off the ladder.
 #[no_mangle]
 pub extern "C" fn hendovita_five_percent_upper(reference: u32) -> PriceFound
-    ensures { λ r. ⌜ r ≡ priceFound (fivePercentUpper (ladder phase1) reference) ⌝ }
+    ensures { λ r. ⌜ r ≡ priceFound (percentUpperFound (ladder phase1) fivePercent reference) ⌝ }
 {
     results::price_found(limits::five_percent_upper(reference))
 }

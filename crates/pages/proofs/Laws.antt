@@ -1,4 +1,4 @@
--- The laws of specs/Laws.antt, proved.
+-- The laws of specs/Laws.antt, proved. Other crates see them as fields of page-laws.
 use mathlib.Core.Path.{_≡_, refl, sym, _∙_, ap}
 use Prim.Native.Nat.{ℕ, zero, suc, _+_, _*_, _-_, _/_, _%_, _≤_}
 use native.Mathlib.Nat.{add-zero, add-suc, add-assoc}
@@ -47,7 +47,7 @@ module _ (l : List ℕ) (percent : Percentage) (first : ℕ) (s t : List ℕ) wh
       rw (add-suc n k, lines-join n k h, question-after s t n k h, add-assoc first n k)
       (append-assoc (linesTo l percent first n s) (linesTo l percent (first + n) k t) (line (first + (n + k)) (judged l percent (questionAt k t))))
 
-pub pages-join : PagesJoin
+pages-join : PagesJoin
 unfolding leftLine
 pages-join l percent first s t h =
     let n = countOf (length s) in
@@ -59,7 +59,7 @@ pages-join l percent first s t h =
     rw (count, left, h, lines-join l percent first s t n (countOf (length t)) (omega (arith, h)), append-nil lines)
     (append-assoc lines rest (leftLine (length t % questionBytes)))
 
-pub empty-page : EmptyPage
+empty-page : EmptyPage
 unfolding linesTo leftLine
 empty-page l percent first = refl
 
@@ -84,7 +84,7 @@ ends-with x text =
     front : length (take (length text - length x) text) ≡ length text - length x
     front = length-take-le (length text - length x) text (omega arith)
 
-pub page-stands : PageStands
+page-stands : PageStands
 unfolding startOf
 page-stands l percent first s text start = go (pageRefused first (length s) (length text))
   where

@@ -4,14 +4,14 @@ use native.Mathlib.Omega.{arith}
 use mathlib.Core.List.{[], _∷_, _++_}
 use lib.ListN.{length, length-append}
 use Rattle.text.specs.Decimal.{decimal, field}
-use Rattle.text.proofs.Laws.{decimal-is-short}
+use Rattle.text.proofs.Laws.{text-laws}
 use Rattle.questions.specs.Record.{questionBytes}
 use Rattle.judging.specs.declared.Answer.{Answer}
 use Rattle.pages.specs.Lines.{blank, newline, line, leftLine}
 use Rattle.pages.specs.Pages.{lineRoom, leftRoom}
 
 short : (k n after : ℕ) → 0 < k → n < 10 ^ k → length (field n after) ≤ suc k
-short k n after h m = omega (arith, length-append (decimal n) (after ∷ []), decimal-is-short k n h m)
+short k n after h m = omega (arith, length-append (decimal n) (after ∷ []), text-laws .decimal-is-short k n h m)
 
 pub line-length : (n : ℕ) (a : Answer) → n < 18446744073709551616 → a .number < 4294967296 → a .lowest < 4294967296 → a .highest < 4294967296 →
     length (line n a) ≤ lineRoom

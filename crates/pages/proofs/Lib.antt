@@ -1,4 +1,4 @@
--- Laws: the laws that a reader looks for. Lengths: how long lines are. Rooms: what a page that is not refused has.
+-- Laws: what other crates see. Lengths: how long lines are. Rooms: what a page that is not refused has.
 pub mod Laws
 mod Lengths
 mod Rooms

@@ -1,4 +1,5 @@
--- The laws of pages. Each is proved in proofs/Laws.antt: PagesJoin as pages-join, and so on.
+-- The laws of pages. Each is a field of the record PageLaws at the end, which proofs/Laws.antt proves as page-laws: PagesJoin is the field
+-- pages-join.
 use mathlib.Core.Path.{_≡_}
 use Prim.Native.Nat.{ℕ, _+_, _%_, _≤_}
 use mathlib.Core.List.{[], _++_}
@@ -31,7 +32,8 @@ PageStands =
     (l : Prices) (percent : Percentage) (first : ℕ) (s : Bytes) (text : Text) (start : ℕ) → pagePlace l percent first s text ≡ From start →
     StandsFrom start (page l percent first s) (textAfter l percent first s text)
 
--- All of them.
+-- ---- all of them
+
 pub record PageLaws : Type 0 where
   pub pages-join : PagesJoin
   pub empty-page : EmptyPage

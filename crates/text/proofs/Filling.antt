@@ -7,14 +7,8 @@ use mathlib.Core.List.{[], _++_, append-assoc, append-nil}
 use lib.ListN.{length, take, drop, length-append, length-drop, take-append-drop}
 use lib.Seq.{take-append-le, take-take, drop-at, length-take-le}
 use Rattle.text.specs.Decimal.{Text}
-use Rattle.text.specs.Ending.{endingAt}
-
--- Of `all`, which is to end before `end`, the part `rest` is still to be written, before `at`; s is the text before, now the text so far.
-pub record Filled (all rest : Text) (at end : ℕ) (s now : Text) : Type 0 where
-  pub done : Text
-  pub whole : all ≡ rest ++ done
-  pub place : at + length done ≡ end
-  pub text : now ≡ endingAt end done s
+use Rattle.text.specs.Ending.{endingAt, Filled}
+use Rattle.text.specs.Laws.{ByParts}
 
 pub begun : (all : Text) (end : ℕ) (s : Text) → Filled all all end end s s
 begun all end s =
@@ -72,3 +66,14 @@ next-fits all less x at end s now f h inside = (
   omega (arith, room all (less ++ x) at end s now f h, length-append less x),
   omega (arith, same-length all (less ++ x) at end s now f inside, f .place, inside),
 )
+
+-- all of it, as the law says it
+pub by-parts : (all : Text) (end : ℕ) (s : Text) → ByParts all end s
+by-parts all end s =
+    record {
+      begun = begun all end s;
+      fits = λ less x at now f h inside. next-fits all less x at end s now f h inside;
+      further = λ rest at now f inside. further all rest at end s now f inside;
+      same-length = λ rest at now f inside. same-length all rest at end s now f inside;
+      ended = λ at now f. ended all at end s now f;
+    }

@@ -1,4 +1,4 @@
--- The laws of specs/Laws.antt, proved.
+-- The laws of specs/Laws.antt, proved. Other crates see them as fields of text-laws.
 use mathlib.Core.Path.{_≡_, refl, sym, _∙_, ap}
 use Prim.Native.Nat.{ℕ, zero, suc, _+_, _*_, _-_, _/_, _%_, _^_, _≤_, _<_}
 use native.Mathlib.Nat.{pow-succ'}
@@ -12,8 +12,9 @@ use Rattle.text.specs.Decimal.{Text, digit, decimal}
 use Rattle.text.specs.Laws.{DecimalIs, valueAfter, areDigits, Decimal, DecimalReadsBack, DecimalIsShort, TextLaws}
 use Rattle.text.proofs.Decimals as decimals
 use Rattle.text.proofs.Decimals.{one-digit, last-digit, has-digits, by-digits}
+use Rattle.text.proofs.Filling.{by-parts}
 
-pub decimal-is : DecimalIs
+decimal-is : DecimalIs
 decimal-is = decimals.decimal-is
 
 -- ---- read back
@@ -57,12 +58,12 @@ large n h tenth =
     none : getD (decimal (n / 10)) 0 0 ≡ digit 0 → n / 10 ≡ 0
     none e = sym (tenth .reads-back) ∙ ap (valueAfter 0) (tenth .no-zero-in-front e)
 
-pub decimal-reads-back : DecimalReadsBack
+decimal-reads-back : DecimalReadsBack
 decimal-reads-back = by-digits Decimal small large
 
 -- ---- how many digits
 
-pub decimal-is-short : DecimalIsShort
+decimal-is-short : DecimalIsShort
 decimal-is-short zero n h m = absurd (omega (arith, h))
 decimal-is-short (suc zero) n h m = rw (one-digit n m) (omega arith)
 decimal-is-short (suc (suc k)) n h m = go (decimal-is-short (suc k) (n / 10)) (ltb n 10) refl
@@ -74,4 +75,10 @@ decimal-is-short (suc (suc k)) n h m = go (decimal-is-short (suc k) (n / 10)) (l
         rw (last-digit n (ltb-false n 10 e)) (omega (arith, length-append (decimal (n / 10)) (digit (n % 10) ∷ []), tenth (omega arith) less))
 
 pub text-laws : TextLaws
-text-laws = record { decimal-is = decimal-is; decimal-reads-back = decimal-reads-back; decimal-is-short = decimal-is-short }
+text-laws =
+    record {
+      decimal-is = decimal-is;
+      decimal-reads-back = decimal-reads-back;
+      decimal-is-short = decimal-is-short;
+      filled-by-parts = by-parts;
+    }

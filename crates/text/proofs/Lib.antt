@@ -1,4 +1,4 @@
--- Laws: the laws that a reader looks for. Decimals: numbers digit by digit. Filling: a text that is being filled from its end.
+-- Laws: what other crates see. Decimals: numbers digit by digit. Filling: a text that is being filled from its end.
 pub mod Laws
-pub mod Filling
+mod Filling
 mod Decimals

@@ -1,4 +1,5 @@
--- The laws of decimal numbers. Each is proved in proofs/Laws.antt: DecimalIs as decimal-is, and so on.
+-- The laws of text. Each is a field of the record TextLaws at the end, which proofs/Laws.antt proves as text-laws: DecimalIs is the field
+-- decimal-is.
 use mathlib.Core.Path.{_≡_}
 use Prim.Native.Nat.{ℕ, _+_, _*_, _-_, _/_, _%_, _^_, _<_, _≤_}
 use mathlib.Core.Bool.{Bool, true, cond, _&&_}
@@ -6,6 +7,7 @@ use mathlib.Core.List.{[], _∷_, _++_}
 use lib.Dec.{T, ltb, leb}
 use lib.ListN.{length, getD}
 use Rattle.text.specs.Decimal.{Text, digit, decimal}
+use Rattle.text.specs.Ending.{endingAt, Filled}
 
 -- One digit, or the last one after those of a tenth.
 abbrev pub DecimalIs : Type 0
@@ -35,8 +37,24 @@ DecimalReadsBack = (n : ℕ) → Decimal n
 abbrev pub DecimalIsShort : Type 0
 DecimalIsShort = (k n : ℕ) → 0 < k → n < 10 ^ k → length (decimal n) ≤ k
 
--- All of them.
+-- A text is filled from its end, part by part: it begins with nothing written; the last part x of what is left fits, and once it is written
+-- the text is filled further; its length stays; and where nothing is left, it ends with all that was to be written.
+pub record ByParts (all : Text) (end : ℕ) (s : Text) : Type 0 where
+  pub begun : Filled all all end end s s
+  pub fits : (less x : Text) (at : ℕ) (now : Text) → Filled all (less ++ x) at end s now → length all ≤ end → end ≤ length s →
+      (length x ≤ at) × (at ≤ length now)
+  pub further : (rest : Text) (at : ℕ) (now : Text) → Filled all rest at end s now → end ≤ length s → (less x : Text) → rest ≡ less ++ x →
+      (start : ℕ) → start + length x ≡ at → (next : Text) → next ≡ endingAt at x now → Filled all less start end s next
+  pub same-length : (rest : Text) (at : ℕ) (now : Text) → Filled all rest at end s now → end ≤ length s → length now ≡ length s
+  pub ended : (at : ℕ) (now : Text) → Filled all [] at end s now → (at + length all ≡ end) × (now ≡ endingAt end all s)
+
+abbrev pub FilledByParts : Type 0
+FilledByParts = (all : Text) (end : ℕ) (s : Text) → ByParts all end s
+
+-- ---- all of them
+
 pub record TextLaws : Type 0 where
   pub decimal-is : DecimalIs
   pub decimal-reads-back : DecimalReadsBack
   pub decimal-is-short : DecimalIsShort
+  pub filled-by-parts : FilledByParts

@@ -6,7 +6,8 @@ use native.Mathlib.Omega.{arith}
 use mathlib.Core.List.{[], _∷_, _++_}
 use lib.ListN.{length}
 use Rattle.text.specs.Decimal.{digit, twoDigits, decimal}
-use Rattle.text.proofs.Filling.{Filled, begun, further, ended, next-fits, same-length}
+use Rattle.text.specs.Ending.{Filled}
+use Rattle.text.proofs.Filling.{begun, further, ended, next-fits, same-length}
 use Rattle.text.proofs.Decimals.{one-digit, two-digits, last-two}
 use Rattle.text.proofs.put_decimal.Statement.{statement}
 use Rattle.text.proofs.put_decimal.Tie as tie

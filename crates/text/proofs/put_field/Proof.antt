@@ -5,7 +5,8 @@ use native.Mathlib.Omega.{arith}
 use mathlib.Core.List.{[], _∷_}
 use lib.ListN.{length-append}
 use Rattle.text.specs.Decimal.{decimal, field}
-use Rattle.text.proofs.Filling.{Filled, begun, further, ended, room, same-length}
+use Rattle.text.specs.Ending.{Filled}
+use Rattle.text.proofs.Filling.{begun, further, ended, room, same-length}
 use Rattle.text.proofs.put_field.Statement.{statement}
 use Rattle.text.proofs.put_field.Tie as tie
 

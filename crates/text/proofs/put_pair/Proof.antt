@@ -4,7 +4,8 @@ use mathlib.Core.Path.{refl}
 use mathlib.Core.List.{[], _∷_}
 use Prim.Native.Nat.{_/_, _%_}
 use Rattle.text.specs.Decimal.{digit, twoDigits}
-use Rattle.text.proofs.Filling.{Filled, begun, further, ended}
+use Rattle.text.specs.Ending.{Filled}
+use Rattle.text.proofs.Filling.{begun, further, ended}
 use Rattle.text.proofs.put_pair.Statement.{statement}
 use Rattle.text.proofs.put_pair.Tie as tie
 

@@ -5,7 +5,8 @@ use native.Mathlib.Omega.{arith}
 use mathlib.Core.List.{List, [], _∷_, _++_}
 use lib.ListN.{length, take, getD}
 use lib.Seq.{take-suc, take-length}
-use Rattle.text.proofs.Filling.{Filled, begun, further, ended, next-fits, same-length}
+use Rattle.text.specs.Ending.{Filled}
+use Rattle.text.proofs.Filling.{begun, further, ended, next-fits, same-length}
 use Rattle.text.proofs.put_word.Statement.{statement}
 use Rattle.text.proofs.put_word.Tie as tie
 

@@ -6,7 +6,8 @@ use native.Mathlib.Omega.{arith}
 use mathlib.Core.List.{[], _++_}
 use lib.ListN.{length}
 use Rattle.text.specs.Decimal.{Text, field}
-use Rattle.text.proofs.Filling.{Filled, begun, further, ended, next-fits}
+use Rattle.text.specs.Ending.{Filled}
+use Rattle.text.proofs.Laws.{text-laws}
 use Rattle.pages.specs.Lines.{blank, newline, line}
 use Rattle.pages.specs.Pages.{lineRoom}
 use Rattle.pages.proofs.Lengths.{line-length}
@@ -36,18 +37,18 @@ Left s rest at now = Filled (line (s .args .number) (s .args .answer)) rest at (
 
 nothing-yet : (s : tie.Start) → Left s (three s ++ field (s .args .answer .highest) newline) (s .args .end) (s .args .text .now)
 unfolding line
-nothing-yet s = begun _ _ _
+nothing-yet s = text-laws .filled-by-parts _ _ _ .begun
 
 three-left : (c : tie.After-put-field) → Left (c .before .before .before .before) (three (c .before .before .before .before)) (c .put-field .result) (c .put-field .last .0)
 three-left c =
     let s = c .before .before .before .before in
-    further _ _ _ _ _ _ (nothing-yet s) (s .pre .1) _ _ refl _ (c .put-field .ensures .0) _ (c .put-field .ensures .1)
+    text-laws .filled-by-parts _ _ _ .further _ _ _ (nothing-yet s) (s .pre .1) _ _ refl _ (c .put-field .ensures .0) _ (c .put-field .ensures .1)
 
 two-left : (c : tie.After-put-field2) →
     (let s = c .before .before .before .before .before .before .before .before .before in Left s (two s) (c .put-field2 .result) (c .put-field2 .last .0))
 two-left c =
     let d = c .before .before .before .before .before in
-    further _ _ _ _ _ _ (three-left d) (d .before .before .before .before .pre .1) _ _ refl _ (c .put-field2 .ensures .0) _ (c .put-field2 .ensures .1)
+    text-laws .filled-by-parts _ _ _ .further _ _ _ (three-left d) (d .before .before .before .before .pre .1) _ _ refl _ (c .put-field2 .ensures .0) _ (c .put-field2 .ensures .1)
 
 one-left : (c : tie.After-put-field3) →
     (let s = c .before .before .before .before .before .before .before .before .before .before .before .before .before .before in
@@ -55,37 +56,37 @@ one-left : (c : tie.After-put-field3) →
 one-left c =
     let d = c .before .before .before .before .before in
     let s = d .before .before .before .before .before .before .before .before .before in
-    further _ _ _ _ _ _ (two-left d) (s .pre .1) _ _ refl _ (c .put-field3 .ensures .0) _ (c .put-field3 .ensures .1)
+    text-laws .filled-by-parts _ _ _ .further _ _ _ (two-left d) (s .pre .1) _ _ refl _ (c .put-field3 .ensures .0) _ (c .put-field3 .ensures .1)
 
 put-field-requires : tie.Need-put-field-requires
 put-field-requires c κs =
     let s = c .before .before .before in
-    next-fits _ (three s) _ _ _ _ _ (nothing-yet s) (inside s) (s .pre .1)
+    text-laws .filled-by-parts _ _ _ .fits (three s) _ _ _ (nothing-yet s) (inside s) (s .pre .1)
 
 put-field-requires-2 : tie.Need-put-field-requires-2
 put-field-requires-2 c κs =
     let d = c .before .before .before .before in
     let s = d .before .before .before .before in
-    next-fits _ (two s) _ _ _ _ _ (three-left d) (inside s) (s .pre .1)
+    text-laws .filled-by-parts _ _ _ .fits (two s) _ _ _ (three-left d) (inside s) (s .pre .1)
 
 put-field-requires-3 : tie.Need-put-field-requires-3
 put-field-requires-3 c κs =
     let d = c .before .before .before .before in
     let s = d .before .before .before .before .before .before .before .before .before in
-    next-fits _ (one s) _ _ _ _ _ (two-left d) (inside s) (s .pre .1)
+    text-laws .filled-by-parts _ _ _ .fits (one s) _ _ _ (two-left d) (inside s) (s .pre .1)
 
 put-field-requires-4 : tie.Need-put-field-requires-4
 put-field-requires-4 c κs =
     let d = c .before .before .before in
     let s = d .before .before .before .before .before .before .before .before .before .before .before .before .before .before in
-    next-fits _ [] _ _ _ _ _ (one-left d) (inside s) (s .pre .1)
+    text-laws .filled-by-parts _ _ _ .fits [] _ _ _ (one-left d) (inside s) (s .pre .1)
 
 returns : tie.Need-returns
 returns c =
     let d = c .before .before .before .before .before .before in
     let s = d .before .before .before .before .before .before .before .before .before .before .before .before .before .before in
-    let all = ended _ _ _ _ _
-    (further _ _ _ _ _ _ (one-left d) (s .pre .1) [] _ refl _ (c .before .before .put-field4 .ensures .0) _ (c .before .before .put-field4 .ensures .1)) in
+    let all = text-laws .filled-by-parts _ _ _ .ended _ _
+    (text-laws .filled-by-parts _ _ _ .further _ _ _ (one-left d) (s .pre .1) [] _ refl _ (c .before .before .put-field4 .ensures .0) _ (c .before .before .put-field4 .ensures .1)) in
     (all .0, (omega (arith, all .0, fits s), all .1))
 
 pub put-line-spec : {M : Type 1} → statement M

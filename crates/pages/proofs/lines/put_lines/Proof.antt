@@ -5,7 +5,8 @@ use Prim.Native.Nat.{ℕ, suc, _+_, _-_, _*_, _≤_}
 use native.Mathlib.Omega.{arith}
 use mathlib.Core.List.{List, _++_}
 use lib.ListN.{length}
-use Rattle.text.proofs.Filling.{Filled, begun, further, ended, same-length}
+use Rattle.text.specs.Ending.{Filled}
+use Rattle.text.proofs.Laws.{text-laws}
 use Rattle.ladder.specs.Layout.{pricesOf}
 use Rattle.limits.specs.declared.Percentage.{Percentage}
 use Rattle.questions.specs.Record.{questionBytes, questionAt}
@@ -31,11 +32,11 @@ unfolding linesTo
 last-line l percent first k s h = let m = k - 1 in let e : k ≡ suc m = omega arith in ap (λ (n : ℕ). linesTo l percent first n s) e
 
 loop-holds : tie.Need-loop-holds Inv-loop μ-loop
-loop-holds c = (omega arith, omega arith, begun _ _ _)
+loop-holds c = (omega arith, omega arith, text-laws .filled-by-parts _ _ _ .begun)
 
 -- the text is as long as it was
 room : (c : tie.At-loop Inv-loop μ-loop) → length (c .loop .text) ≡ length (c .before .before .before .before .args .text .now)
-room c = same-length _ _ _ _ _ _ (c .loop .inv .2) (c .before .before .before .before .pre .1 .1 .1 .1)
+room c = text-laws .filled-by-parts _ _ _ .same-length _ _ _ (c .loop .inv .2) (c .before .before .before .before .pre .1 .1 .1 .1)
 
 put-line-requires : tie.Need-put-line-requires Inv-loop μ-loop
 put-line-requires c κs =
@@ -54,7 +55,7 @@ loop-again c =
     c .before .before .before .before .judge .ensures ∙ rw one-question in (
       omega arith,
       omega (arith, l .loop .inv .1, c .before .before .put-line .ensures .1 .0),
-      further _ _ _ _ _ _ (l .loop .inv .2) (s .pre .1 .1 .1 .1) _ (line (s .args .first + (k - 1)) (judged prices (s .args .percentage) asked))
+      text-laws .filled-by-parts _ _ _ .further _ _ _ (l .loop .inv .2) (s .pre .1 .1 .1 .1) _ (line (s .args .first + (k - 1)) (judged prices (s .args .percentage) asked))
           (last-line prices (s .args .percentage) (s .args .first) k (s .args .questions .now) (omega arith)) _
           (rw (← answer) (c .before .before .put-line .ensures .0)) _ (rw (← answer) (c .before .before .put-line .ensures .1 .1)),
     )
@@ -66,7 +67,7 @@ returns : tie.Need-returns Inv-loop μ-loop
 unfolding linesTo
 returns c =
     let none : c .before .loop .k ≡ 0 = omega arith in
-    ended _ _ _ _ _ (rw none at (c .before .loop .inv .2))
+    text-laws .filled-by-parts _ _ _ .ended _ _ (rw none at (c .before .loop .inv .2))
 
 pub put-lines-spec : {M : Type 1} → statement M
 put-lines-spec =

@@ -6,7 +6,8 @@ use native.Mathlib.Omega.{arith}
 use mathlib.Core.Bool.{false}
 use mathlib.Core.List.{[]}
 use lib.ListN.{length}
-use Rattle.text.proofs.Filling.{Filled, begun, further, ended, same-length}
+use Rattle.text.specs.Ending.{Filled}
+use Rattle.text.proofs.Laws.{text-laws}
 use Rattle.ladder.specs.Layout.{pricesOf}
 use Rattle.questions.specs.Record.{countOf}
 use Rattle.pages.specs.declared.Page.the-variants.{From}
@@ -38,7 +39,7 @@ lines-left : (c : tie.After-put-left) →
     (linesTo (pricesOf (s .args .table .now)) (s .args .percentage) (s .args .first) (countOf (length (s .args .questions .now))) (s .args .questions .now))
     (c .put-left .result) (length (s .args .text .now)) (s .args .text .now) (c .put-left .last .0))
 lines-left c =
-    further _ _ _ _ _ _ (begun _ _ _) (omega arith) _ _ refl _ (c .put-left .ensures .0) _ (c .put-left .ensures .1 .1)
+    text-laws .filled-by-parts _ _ _ .further _ _ _ (text-laws .filled-by-parts _ _ _ .begun) (omega arith) _ _ refl _ (c .put-left .ensures .0) _ (c .put-left .ensures .1 .1)
 
 put-left-requires : tie.Need-put-left-requires
 put-left-requires c κs = (omega arith, (omega (arith, room (c .before)), omega arith))
@@ -51,7 +52,7 @@ put-lines-requires c κs =
     let enough : count * lineRoom ≤ d .put-left .result = omega (arith, room (d .before .before), d .put-left .ensures .1 .0) in
     let numbers : s .args .first + count ≤ 18446744073709551615 =
     numbered (s .args .first) (length (s .args .questions .now)) (length (s .args .text .now)) (taken (d .before .before)) in
-    let kept = same-length _ _ _ _ _ _ (lines-left d) (omega arith) in
+    let kept = text-laws .filled-by-parts _ _ _ .same-length _ _ _ (lines-left d) (omega arith) in
     (s .pre, (omega arith, (omega (arith, numbers), (enough, omega (arith, kept, lines-left d .place)))))
 
 returns-2 : tie.Need-returns-2
@@ -59,7 +60,7 @@ returns-2 c =
     let d = c .before .before .before .before .before .before in
     let s = d .before .before .before .before .before .before .before in
     let lines = c .before .before .put-lines .ensures in
-    let all = ended _ _ _ _ _ (further _ _ _ _ _ _ (lines-left d) (omega arith) [] _ refl _ (lines .0) _ (lines .1)) in
+    let all = text-laws .filled-by-parts _ _ _ .ended _ _ (text-laws .filled-by-parts _ _ _ .further _ _ _ (lines-left d) (omega arith) [] _ refl _ (lines .0) _ (lines .1)) in
     (rw (taken (d .before .before)) (ap From (omega (arith, all .0))), rw (taken (d .before .before)) (all .1))
 
 pub write-spec : {M : Type 1} → statement M
