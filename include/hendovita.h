@@ -1,11 +1,15 @@
 /*
  * Hendovita: price checks for the Hong Kong continuous trading session.
  *
- * Link with libhendovita.a; nothing else is needed. Every function of the
- * archive is proved to give the answer that its comment says, for every
- * argument: it never traps, always returns, keeps no state and allocates
- * nothing. The `static inline` functions here are plain C, tested but not
- * proved. All may be called from several threads at once.
+ * Link with libhendovita.a, for x86-64 Linux; nothing else is needed. Each
+ * function of the archive is proved in Rattle to meet its contract, never to
+ * trap and to return, whatever its arguments; the comments below are these
+ * contracts in words. The compiler that turns it into the archive is trusted.
+ * Tested and not proved: NULL with length 0, that this header declares what
+ * the archive has, and the `static inline` functions, which are plain C.
+ *
+ * No function keeps a state or allocates memory. All may be called from
+ * several threads at once.
  *
  * A price is a whole number of mils (0.001 of the currency unit). The spread
  * table is that of Phase 1, the percentage is 5. That is right for all
@@ -17,8 +21,11 @@
  *     NULL goes with length 0 only, and is then no fault;
  *   - the question bytes and the answer buffer of a batch do not overlap.
  *
- * Calls that name a table or a rate will be added under names of their own,
- * ending in _with. Those below keep their names and signatures.
+ * Calls that name a table by number will end in _on, those that name a table
+ * and a rate in _at, those that are given a table of one's own in _own. They
+ * come beside the calls below, which keep their names and signatures. A later
+ * version that puts a security code into the question changes the record
+ * itself: its size, and struct hendovita_question.
  */
 #ifndef HENDOVITA_H
 #define HENDOVITA_H
@@ -30,6 +37,14 @@
 extern "C" {
 #endif
 
+/* Stands before a function whose result must be looked at: gcc and clang warn
+ * where it is not. */
+#if defined(__GNUC__) || defined(__clang__)
+#define HENDOVITA_CHECK_RESULT __attribute__((warn_unused_result))
+#else
+#define HENDOVITA_CHECK_RESULT
+#endif
+
 /* ---- sizes ---------------------------------------------------------- */
 
 enum {
@@ -38,50 +53,33 @@ enum {
     HENDOVITA_MOST_QUESTIONS = 1000 /* in a batch */
 };
 
-/* ---- codes of a question -------------------------------------------- */
-
-enum hendovita_side {
-    HENDOVITA_BUY = 1,
-    HENDOVITA_SELL = 2
-};
-
-enum hendovita_order_type {
-    HENDOVITA_LIMIT = 1,
-    HENDOVITA_ENHANCED_LIMIT = 2,
-    HENDOVITA_SPECIAL_LIMIT = 3
-};
-
-enum hendovita_queue {
-    HENDOVITA_OPENING = 1, /* no bid and no ask yet today */
-    HENDOVITA_BOTH_QUEUES = 2,
-    HENDOVITA_BUY_QUEUE_ONLY = 3,
-    HENDOVITA_SELL_QUEUE_ONLY = 4,
-    HENDOVITA_NEITHER_QUEUE = 5
-};
-
 /* ---- answer numbers, by who can cause them -------------------------- */
 
+/* The checks run in the order of their numbers, and the first that applies
+ * gives the number. Each call below says which numbers it returns. */
 enum hendovita_number {
     HENDOVITA_ACCEPTED = 0,
 
     /* the calling program */
-    HENDOVITA_BAD_LENGTH = 1,
-    HENDOVITA_UNKNOWN_CODE = 2,
+    HENDOVITA_BAD_LENGTH = 1,   /* see each call */
+    HENDOVITA_UNKNOWN_CODE = 2, /* side, order type, queue code or byte 3 */
 
     /* the reference feed */
-    HENDOVITA_REFERENCE_OFF_LADDER = 3,
-    HENDOVITA_REFERENCES_DISAGREE = 4,
+    HENDOVITA_REFERENCE_OFF_LADDER = 3, /* present, and no ladder price */
+    HENDOVITA_REFERENCES_DISAGREE = 4, /* with the queue code, or each other */
 
     /* the client who enters the order */
-    HENDOVITA_NO_OPPOSITE_QUEUE = 5,
-    HENDOVITA_OUTSIDE_LADDER = 6,
-    HENDOVITA_BETWEEN_PRICES = 7,
-    HENDOVITA_BELOW_LOWEST = 8,
-    HENDOVITA_ABOVE_HIGHEST = 9,
-    HENDOVITA_NINE_FOLD = 10
+    HENDOVITA_NO_OPPOSITE_QUEUE = 5, /* for a special limit order */
+    HENDOVITA_OUTSIDE_LADDER = 6,    /* under 0.010 or over 9,995.000 */
+    HENDOVITA_BETWEEN_PRICES = 7,    /* between two ladder prices */
+    HENDOVITA_BELOW_LOWEST = 8,      /* below the permitted lowest */
+    HENDOVITA_ABOVE_HIGHEST = 9,     /* above the permitted highest */
+    HENDOVITA_NINE_FOLD = 10 /* nine times its reference or more, or a ninth
+                              * or less */
 };
 
-/* A line of text for an answer number. */
+/* A line of text for an answer number; "no answer number" for any other. The
+ * text is constant and need not be freed. */
 static inline const char *hendovita_text(uint32_t number)
 {
     switch (number) {
@@ -112,63 +110,7 @@ static inline const char *hendovita_text(uint32_t number)
     }
 }
 
-/* ---- questions ------------------------------------------------------ */
-
-/*
- * A question is 40 bytes: the side, the order type, the queue code and 0, a
- * byte each; then nine numbers of 4 bytes, the lowest first: order price,
- * current bid, current ask, last bid, last ask, previous close, day low, day
- * high, nominal price. A missing reference is 0.
- *
- * An answer is 12 bytes, three such numbers: answer number, lowest, highest.
- */
-
-/*
- * An answer. 1 to 5 show 0 and 0. 0 and 6 to 10 show a range: to a question,
- * the lowest and the highest ladder price that are permitted and pass the
- * nine-fold rule, or 0 and 0 where there is none; to a trade, the permitted
- * range.
- */
-struct hendovita_answer {
-    uint32_t number, lowest, highest;
-};
-
-/* The outcome of a batch: 0 and how many questions, or 1 and 0. */
-struct hendovita_outcome {
-    uint32_t number, count;
-};
-
-/*
- * Judges up to 1,000 questions of 40 bytes, end to end. The 12 bytes of the
- * answer to question k, from 0, go into bytes 12k to 12k+11 of answers; the
- * bytes after the last answer keep their content. An empty batch is judged,
- * with count 0.
- *
- * Number 1, count 0: questions_len is no multiple of 40 or over 40,000, or
- * answers_len is under 12 bytes a question. No byte of answers is changed.
- */
-struct hendovita_outcome hendovita_judge_batch(const uint8_t *questions,
-                                               size_t questions_len,
-                                               uint8_t *answers,
-                                               size_t answers_len);
-
-/* The answer to one question; 1 with 0 and 0 unless len is 40. */
-struct hendovita_answer hendovita_judge_question(const uint8_t *question,
-                                                 size_t len);
-
-/*
- * A question with its fields by name. A reference of 0 is missing; an order
- * price of 0 is a bad price.
- */
-struct hendovita_question {
-    uint8_t side, order_type, queue;
-    uint32_t price;
-    uint32_t current_bid, current_ask;
-    uint32_t last_bid, last_ask;
-    uint32_t previous_close;
-    uint32_t day_low, day_high;
-    uint32_t nominal;
-};
+/* ---- numbers as bytes ----------------------------------------------- */
 
 /* Writes 4 bytes, the lowest first. Reads them. */
 static inline void hendovita_put_number(uint8_t *bytes, uint32_t number)
@@ -184,6 +126,44 @@ static inline uint32_t hendovita_get_number(const uint8_t *bytes)
     return (uint32_t)bytes[0] | (uint32_t)bytes[1] << 8
         | (uint32_t)bytes[2] << 16 | (uint32_t)bytes[3] << 24;
 }
+
+/* ---- questions ------------------------------------------------------ */
+
+enum hendovita_side {
+    HENDOVITA_BUY = 1,
+    HENDOVITA_SELL = 2
+};
+
+enum hendovita_order_type {
+    HENDOVITA_LIMIT = 1,
+    HENDOVITA_ENHANCED_LIMIT = 2,
+    HENDOVITA_SPECIAL_LIMIT = 3
+};
+
+enum hendovita_queue {
+    HENDOVITA_OPENING = 1, /* no bid and no ask yet today */
+    HENDOVITA_BOTH_QUEUES = 2,
+    HENDOVITA_BUY_QUEUE_ONLY = 3,
+    HENDOVITA_SELL_QUEUE_ONLY = 4,
+    HENDOVITA_NEITHER_QUEUE = 5
+};
+
+/*
+ * A question is 40 bytes: the side, the order type, the queue code and 0, a
+ * byte each; then nine numbers of 4 bytes, the lowest first: order price,
+ * current bid, current ask, last bid, last ask, previous close, day low, day
+ * high, nominal price. A missing reference is 0; an order price of 0 is a bad
+ * price. Here with its fields by name.
+ */
+struct hendovita_question {
+    uint8_t side, order_type, queue;
+    uint32_t price;
+    uint32_t current_bid, current_ask;
+    uint32_t last_bid, last_ask;
+    uint32_t previous_close;
+    uint32_t day_low, day_high;
+    uint32_t nominal;
+};
 
 /* Writes the 40 bytes of a question. */
 static inline void hendovita_put_question(uint8_t *bytes,
@@ -204,6 +184,21 @@ static inline void hendovita_put_question(uint8_t *bytes,
     hendovita_put_number(bytes + 36, q->nominal);
 }
 
+/* ---- answers -------------------------------------------------------- */
+
+/*
+ * An answer: an answer number, and the range that is shown. 1 to 5 show 0 and
+ * 0. 0 and 6 to 10 show a range: to a question, the lowest and the highest
+ * ladder price that are permitted and pass the nine-fold rule, or 0 and 0
+ * where there is none; to a trade, the permitted range.
+ *
+ * In an answer buffer it is 12 bytes, these three numbers of 4 bytes each, the
+ * lowest first.
+ */
+struct hendovita_answer {
+    uint32_t number, lowest, highest;
+};
+
 /* Reads the 12 bytes of an answer. */
 static inline struct hendovita_answer hendovita_get_answer(const uint8_t *bytes)
 {
@@ -214,12 +209,57 @@ static inline struct hendovita_answer hendovita_get_answer(const uint8_t *bytes)
     return answer;
 }
 
-/* ---- off-System trades ---------------------------------------------- */
+/* ---- judging -------------------------------------------------------- */
+
+/* The outcome of a batch: 0 and how many questions, or 1 and 0. */
+struct hendovita_outcome {
+    uint32_t number, count;
+};
 
 /*
- * The answer to a trade: 0, 3, 4, 6, 8 or 9. After the trade price, 0 means
- * missing. The trade price need not be a ladder price.
+ * Judges up to 1,000 questions of 40 bytes, end to end, and returns one of two
+ * numbers.
+ *
+ * 0 (HENDOVITA_ACCEPTED): every question is judged, and count is
+ * questions_len / 40. The 12 bytes of the answer to question k, from 0, stand
+ * in bytes 12k to 12k+11 of answers, and are what hendovita_judge_question
+ * returns for it: each has its own number, 0 or 2 to 10. The bytes after the
+ * last answer keep their content. An empty batch is judged, with count 0.
+ *
+ * 1 (HENDOVITA_BAD_LENGTH): questions_len is no multiple of 40 or over 40,000,
+ * or answers_len is under 12 bytes a question. Nothing is judged: count is 0,
+ * and no byte of answers is changed.
  */
+HENDOVITA_CHECK_RESULT
+struct hendovita_outcome hendovita_judge_batch(const uint8_t *questions,
+                                               size_t questions_len,
+                                               uint8_t *answers,
+                                               size_t answers_len);
+
+/*
+ * The answer to one question.
+ *
+ * 1 (HENDOVITA_BAD_LENGTH) with 0 and 0: len is not 40. With len 40, 0 and 2
+ * to 10: 2 to 5 with 0 and 0, the others with the range.
+ */
+HENDOVITA_CHECK_RESULT
+struct hendovita_answer hendovita_judge_question(const uint8_t *question,
+                                                 size_t len);
+
+/*
+ * The answer to an off-System trade, given the previous close and the lowest
+ * and highest bid and ask of the day so far. After the trade price, 0 means
+ * missing. The trade price need not be a ladder price, and the nine-fold rule
+ * is for orders.
+ *
+ * 3 with 0 and 0: a reference is present but no ladder price.
+ * 4 with 0 and 0: of the lowest and highest bid one is missing, or the lowest
+ *   is above the highest; or so of the asks.
+ * 6, 8, 9 with the permitted range: the trade price is under 0.010 or over
+ *   9,995.000; below the lowest; above the highest.
+ * 0 with the permitted range: accepted. No other number.
+ */
+HENDOVITA_CHECK_RESULT
 struct hendovita_answer hendovita_judge_trade(uint32_t price,
                                               uint32_t previous_close,
                                               uint32_t lowest_bid,
@@ -234,30 +274,43 @@ struct hendovita_price {
     uint32_t found, price;
 };
 
-/* A place: found is 1; or none: found is 0, and place is 0. */
+/* A place: found is 1; or none: found is 0, and place is 0, which is a proper
+ * place where found is 1. */
 struct hendovita_place {
     uint32_t found, place;
 };
 
-/* The price n spreads up or down, halting at the ends of the ladder; none
- * from a price off the ladder. */
+/* The price n spreads up or down, any n, halting at the ends of the ladder;
+ * with n = 0 the price itself. None from a price off the ladder, and only
+ * then. */
+HENDOVITA_CHECK_RESULT
 struct hendovita_price hendovita_up(uint32_t price, uint64_t n);
+HENDOVITA_CHECK_RESULT
 struct hendovita_price hendovita_down(uint32_t price, uint64_t n);
 
-/* The price at a place, 0 (0.010) to 11,739 (9,995.000); none above. */
+/* The price at a place, 0 (0.010) to 11,739 (9,995.000). None above, and only
+ * there. */
+HENDOVITA_CHECK_RESULT
 struct hendovita_price hendovita_price_at(uint32_t place);
 
-/* The place of a price; none for a price off the ladder. */
+/* The place of a price. None for a price off the ladder, and only then. */
+HENDOVITA_CHECK_RESULT
 struct hendovita_place hendovita_place_of(uint32_t price);
 
-/* The limits of a reference: 5 percent or 24 spreads, whichever is further;
- * none from a reference off the ladder. */
+/* The limits of a reference: 5 percent or 24 spreads, whichever is further,
+ * both halting at the ends of the ladder. The lower 5 percent limit is rounded
+ * up to the ladder, the upper one down. None from a reference off the ladder,
+ * and only then. */
+HENDOVITA_CHECK_RESULT
 struct hendovita_price hendovita_lower_limit(uint32_t reference);
+HENDOVITA_CHECK_RESULT
 struct hendovita_price hendovita_upper_limit(uint32_t reference);
 
-/* The 5 percent limits by themselves, before 24 spreads are looked at; none
- * from a reference off the ladder. */
+/* The 5 percent limits by themselves, before 24 spreads are looked at, rounded
+ * likewise. None from a reference off the ladder, and only then. */
+HENDOVITA_CHECK_RESULT
 struct hendovita_price hendovita_five_percent_lower(uint32_t reference);
+HENDOVITA_CHECK_RESULT
 struct hendovita_price hendovita_five_percent_upper(uint32_t reference);
 
 #ifdef __cplusplus
