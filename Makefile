@@ -25,6 +25,7 @@ all: $(LIBRARY) $(PRICECHECK) build/ask
 
 # The batch and the other calls are an object each.
 $(LIBRARY): $(RATTLE) Makefile
+	@echo 'proving and building the library .. (about two minutes from scratch)'
 	rt staticlib batch
 	rt staticlib interface
 	mkdir -p build
@@ -33,6 +34,7 @@ $(LIBRARY): $(RATTLE) Makefile
 	ar rcs $@ build/batch.o build/interface.o
 
 $(PRICECHECK): $(RATTLE) Makefile
+	@echo 'proving and building pricecheck .. (about half a minute more)'
 	rt check pricecheck
 	mkdir -p build
 	cp target/bin/pricecheck $@
