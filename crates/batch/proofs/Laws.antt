@@ -6,10 +6,10 @@ use native.Mathlib.Nat.{eq-or-lt-of-le, le-of-suc-le-suc}
 use native.Mathlib.Omega.{arith}
 use mathlib.Core.Bool.{Bool, true, false, _&&_, cond}
 use mathlib.Core.List.{List, _++_, append-assoc}
-use lib.Dec.{T, eqb, leb, leb→le}
+use lib.Dec.{T, eqb, leb, ltb, leb→le}
 use lib.ListN.{length, getD, take, drop, length-drop}
 use lib.Seq.{take-at, drop-at, getD-take, getD-drop, length-take-le}
-use borrow.Author.Tests.{not-true, eqb-true, eqb-false}
+use borrow.Author.Tests.{not-true, eqb-true, eqb-false, le-ltb}
 use Rattle.ladder.specs.Bands.{Table, wellFormed}
 use Rattle.ladder.specs.Ladder.{ladder, isLadderPrice}
 use Rattle.ladder.specs.Places.{lastPrice}
@@ -23,7 +23,7 @@ use Rattle.judging.specs.Laws.{notRefused, isQuestionNumber}
 use Rattle.judging.proofs.Laws.{judging-laws}
 use Rattle.batch.specs.Record.{answerBytes, encoded, answerAt}
 use Rattle.batch.specs.Batch.{refused, answersTo, answered, bufferAfter}
-use Rattle.batch.specs.Laws.{isJudged, AnswerAlone, AnswerReadsBack, SameBut, OthersKept, AnyOrderPriceInBatch, BatchLaws}
+use Rattle.batch.specs.Laws.{isJudged, EmptyBatch, AnswerAlone, AnswerReadsBack, SameBut, OthersKept, AnyOrderPriceInBatch, BatchLaws}
 use Rattle.batch.proofs.Lengths.{whole}
 use Rattle.batch.proofs.Changes.{same-question, changed-record, followed}
 use Rattle.batch.proofs.Buffer.{length-encoded, length-answers}
@@ -35,6 +35,13 @@ judged-into s a h = not-true _ (passed _ h)
 
 buffer-is : (l : List ℕ) (percent : Percentage) (s a : List ℕ) → T (isJudged s a) → bufferAfter l percent s a ≡ answered l percent (countOf (length s)) s a
 buffer-is l percent s a h = rw (judged-into s a h)
+
+empty-batch : EmptyBatch
+unfolding answersTo
+empty-batch l percent a = record { outcome = rw room refl; buffer = rw room refl }
+  where
+    room : ltb (length a) 0 ≡ false
+    room = le-ltb (length a) 0 (omega arith)
 
 -- ---- answer k
 
@@ -168,6 +175,7 @@ others-kept l percent j s u a same =
 pub batch-laws : BatchLaws
 batch-laws =
     record {
+      empty-batch = empty-batch;
       answer-alone = answer-alone;
       answer-reads-back = answer-reads-back;
       others-kept = others-kept;

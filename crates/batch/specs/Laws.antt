@@ -3,6 +3,7 @@
 use mathlib.Core.Path.{_≡_}
 use Prim.Native.Nat.{ℕ, suc, _*_, _≤_, _<_}
 use mathlib.Core.Bool.{Bool, not}
+use mathlib.Core.List.{[]}
 use lib.Dec.{T}
 use lib.ListN.{length, getD, take, drop}
 use Rattle.ladder.specs.Bands.{Table, wellFormed}
@@ -18,6 +19,14 @@ use Rattle.batch.specs.Batch.{refused, outcomeOf, bufferAfter}
 -- the batch s is judged into the buffer a
 abbrev pub isJudged : Bytes → Bytes → Bool
 isJudged s a = not (refused (length s) (length a))
+
+-- "An empty batch is accepted with count 0.", whatever the buffer, which keeps every byte.
+pub record EmptyIsAccepted (l : Prices) (percent : Percentage) (a : Bytes) : Type 0 where
+  pub outcome : outcomeOf [] a ≡ record { number = 0; count = 0 }
+  pub buffer : bufferAfter l percent [] a ≡ a
+
+abbrev pub EmptyBatch : Type 0
+EmptyBatch = (l : Prices) (percent : Percentage) (a : Bytes) → EmptyIsAccepted l percent a
 
 -- Answer k is the answer to question k alone: no other question plays a part in it, nor what the buffer held.
 abbrev pub AnswerAlone : Type 0
@@ -59,6 +68,7 @@ AnyOrderPriceInBatch =
 -- ---- all of them
 
 pub record BatchLaws : Type 0 where
+  pub empty-batch : EmptyBatch
   pub answer-alone : AnswerAlone
   pub answer-reads-back : AnswerReadsBack
   pub others-kept : OthersKept
