@@ -1,9 +1,9 @@
 // Worked prices: what the library finds for each line of document 01, "Prices worked out", for the examples of source document 004, for
 // the programs that would look finished, and for some lines more, compared with what is due. Each line ends with right or WRONG.
-mod orders; // orders.rt: a question by its fields, and its bytes
-mod saying; // saying.rt: a line of output
+mod orders; // orders.rt: an order by its fields, and the bytes of its question
+mod reporting; // reporting.rt: a line of output, right or WRONG
 mod paper; // paper.rt: lines A to P, and source document 004
-mod finished; // finished.rt: wrong answers that must not come out
+mod wrong_programs; // wrong_programs.rt: answers of wrong programs that must not come out
 mod further; // further.rt: lines beyond those of the paper
 
 fn main() {
@@ -14,9 +14,9 @@ fn main() {
     paper::n_to_p();
     paper::ladder_prices();
     paper::source_document_004();
-    finished::steps_and_rounding();
-    finished::missing_close();
-    finished::nine_fold();
+    wrong_programs::steps_and_rounding();
+    wrong_programs::missing_close();
+    wrong_programs::nine_fold();
     further::opening();
     further::neither();
     further::one_queue();

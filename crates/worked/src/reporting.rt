@@ -1,4 +1,7 @@
 // A line of output: what was asked, what was found, and whether that is right.
+//
+// A function that returns nothing writes to standard output, and its contract has nothing to state: what is written is the system's. The
+// stored output is compared by the gate.
 use super::orders::Order;
 use super::orders::question;
 use judging::Answer;
@@ -76,7 +79,9 @@ pub(crate) struct Tried {
     pub number: u32,
 }
 
-pub(crate) fn outside(price: u32, number: u32) -> Tried {
+pub(crate) fn outside(price: u32, number: u32) -> Tried
+    ensures { λ r. ⌜ r ≡ record { price = price; number = number } ⌝ }
+{
     Tried {
         price: price,
         number: number,
