@@ -17,7 +17,7 @@ use Rattle.questions.specs.Record.{Bytes, countOf}
 use Rattle.pages.specs.Pages.{lineRoom, leftRoom}
 use Rattle.pages.proofs.Laws.{pages-join}
 use Rattle.pricecheck.specs.Run.{pageFrom, pieceBytes, textBytes, firstOf, answeredPart, goesOn, runFrom}
-use Rattle.pricecheck.specs.Laws.{joined, allFull, pagesFrom, PiecesJoin, fullTurns, RunIsPrinted, PiecesFit, PricecheckLaws}
+use Rattle.pricecheck.specs.Laws.{joined, allFull, pagesFrom, PiecesJoin, fullPieces, RunIsPrinted, PiecesFit, PricecheckLaws}
 
 -- a full piece, and the page after it
 one-piece : (k : ℕ) (s t : Bytes) → length s ≡ pieceBytes → pageFrom (firstOf k) (s ++ t) ≡ pageFrom (firstOf k) s ++ pageFrom (firstOf (suc k)) t
@@ -51,7 +51,7 @@ ends-there true s h = refl
 ends-there false s h = ne-eqb (length s) pieceBytes (λ e. omega (arith, h, e))
 
 run-from : (k : ℕ) (pieces : List Bytes) (last : Bytes) (failed : Bool) (later : List (Bytes × Bool)) → T (allFull pieces) → length last < pieceBytes →
-    runFrom k (fullTurns pieces ++ ((last, failed) ∷ later)) ≡
+    runFrom k (fullPieces pieces ++ ((last, failed) ∷ later)) ≡
     pagesFrom k pieces ++ pageFrom (firstOf (k + length pieces)) (answeredPart failed (length last) last)
 run-from k [] last failed later h short = rw (ends-there failed last short, add-zero k) (append-nil _)
 run-from k (s ∷ rest) last failed later h short =

@@ -31,17 +31,19 @@ PiecesJoin =
     (pieces : List Bytes) (last : Bytes) → T (allFull pieces) →
     printed (joined pieces ++ last) ≡ pagesFrom 0 pieces ++ pageFrom (firstOf (length pieces)) last
 
--- turns that brought full pieces, without a failure
-abbrev pub fullTurns : List Bytes → List (Bytes × Bool)
-fullTurns [] = []
-fullTurns (s ∷ rest) = (s, false) ∷ fullTurns rest
+-- full pieces, each come without a failure
+abbrev pub fullPieces : List Bytes → List (Bytes × Bool)
+fullPieces [] = []
+fullPieces (s ∷ rest) = (s, false) ∷ fullPieces rest
 
 -- A run writes what is printed of all that came: of full pieces, and of what is answered of the first that is not full, after which nothing
--- is read.
+-- is read. This is a law about the model of a run, `runFrom`. What ties the program to the model is what `print` requires (each piece is
+-- written as its page) and what `answer_piece`, `first_of` and `does_go_on` (when another piece is read) ensure. That the loop of `main`
+-- counts the pieces, that `fill` reads on and that `print` writes is read and tested (host/pricecheck), not proved.
 abbrev pub RunIsPrinted : Type 0
 RunIsPrinted =
     (pieces : List Bytes) (last : Bytes) (failed : Bool) (later : List (Bytes × Bool)) → T (allFull pieces) → length last < pieceBytes →
-    runFrom 0 (fullTurns pieces ++ ((last, failed) ∷ later)) ≡ printed (joined pieces ++ answeredPart failed (length last) last)
+    runFrom 0 (fullPieces pieces ++ ((last, failed) ∷ later)) ≡ printed (joined pieces ++ answeredPart failed (length last) last)
 
 -- The page of a piece is never refused: its text has room for it, and its numbers have 64 bits.
 abbrev pub PiecesFit : Type 0

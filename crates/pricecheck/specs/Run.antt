@@ -57,8 +57,8 @@ answeredPart failed bytes s = take (answeredBytes failed bytes) s
 abbrev pub goesOn : Bool → Bool → ℕ → Bool
 goesOn written failed bytes = written && not failed && eqb bytes pieceBytes
 
--- What came in a turn: bytes, and whether a read failed after them. What a run writes, turn after turn from turn k, if every write
--- goes well: the page of what is answered, and then of the next turn, if it goes on.
+-- What came of a piece: bytes, and whether a read failed after them. What a run writes, piece after piece from piece k, if every write
+-- goes well: the page of what is answered, and then of the next piece, if it goes on.
 abbrev pub runFrom : ℕ → List (Bytes × Bool) → Text
 runFrom k [] = []
 runFrom k ((s, failed) ∷ rest) =

@@ -1,8 +1,8 @@
 // pricecheck: questions on standard input, a line for each on standard output.
 //
-// Each turn reads a piece of the input, makes its page and writes it. What is written is said by `print`; the law `pieces-join` says
-// that how the input is cut into pieces does not show. What cannot be read or written is said on standard error. After a read that failed
-// the questions that came whole have their lines; after a write that failed nothing more is written, and the last line may be cut.
+// The input is read piece by piece; the page of each is made and written. What `print` requires says what is written, and the law
+// `pieces-join` that the cuts do not show. What cannot be read or written is said on standard error. After a read that failed the
+// questions that came whole have their lines; after a write that failed nothing more is written, and the last line may be cut.
 use libc::STDIN_FILENO;
 use libc::STDOUT_FILENO;
 use pages::Page;
@@ -27,7 +27,7 @@ struct Input {
     has_failed: bool,
 }
 
-// What came of a turn: the input, and whether its page was written.
+// What became of a piece: what came of it, and whether its page was written.
 struct Outcome {
     input: Input,
     is_written: bool,
@@ -44,7 +44,7 @@ fn input_of(got: isize, part: &[u8]) -> Input
     }
 }
 
-// Reads once. Where that fails, no byte came.
+// Reads once. What a read answers is the system's; the contract says what holds of it: where a read fails, no byte came.
 fn read_some(part: &mut [u8]) -> Input
     ensures inside { λ r. ⌜ r .bytes ≤ length (now (part .entry)) ⌝ }
     ensures failed { λ r. ⌜ (T (r .«has_failed») → r .bytes ≡ 0) ⌝ }
@@ -57,7 +57,8 @@ fn read_some(part: &mut [u8]) -> Input
     input
 }
 
-// Reads until the piece is full, the input ends or a read fails. A piece that came whole came without a failure.
+// Reads until the piece is full, the input ends or a read fails. What comes is the system's; the contract says what holds of it: a piece
+// that came whole came without a failure.
 fn fill(piece: &mut [u8]) -> Input
     ensures inside { λ r. ⌜ r .bytes ≤ length (now (piece .entry)) ⌝ }
     ensures failed { λ r. ⌜ (T (r .«has_failed») → r .bytes < length (now (piece .entry))) ⌝ }
@@ -79,14 +80,14 @@ fn fill(piece: &mut [u8]) -> Input
     }
 }
 
-// The number of the first question of a piece.
-fn first_of(turn: u32) -> u64
-    ensures { λ r. ⌜ r ≡ firstOf turn ⌝ }
+// The number of the first question of a piece, by the piece's index, from 0.
+fn first_of(index: u32) -> u64
+    ensures { λ r. ⌜ r ≡ firstOf index ⌝ }
 {
-    turn as u64 * PIECE_QUESTIONS as u64 + 1
+    index as u64 * PIECE_QUESTIONS as u64 + 1
 }
 
-// The bytes of a piece that are answered: after a read that failed, bytes of a question that is not whole are not left over.
+// The bytes of a piece that are answered: all that came, or after a read that failed those of whole questions only.
 fn answered_bytes(input: Input) -> usize
     ensures answered { λ r. ⌜ r ≡ answeredBytes (input .«has_failed») (input .bytes) ⌝ }
     ensures inside { λ r. ⌜ r ≤ input .bytes ⌝ }
@@ -96,13 +97,13 @@ fn answered_bytes(input: Input) -> usize
 }
 
 // Makes the page of the questions of a piece, at the end of the text. Answers where it begins.
-fn page_of(turn: u32, questions: &[u8], text: &mut [u8]) -> usize
+fn page_of(index: u32, questions: &[u8], text: &mut [u8]) -> usize
     requires { ⌜ length (now questions) ≤ pieceBytes ⌝ }
     requires { ⌜ length (now text) ≡ textBytes ⌝ }
     ensures inside { λ r. ⌜ r ≤ textBytes ⌝ }
-    ensures page { λ r. ⌜ drop r (now (text .exit)) ≡ pageFrom (firstOf turn) (now (questions .entry)) ⌝ }
+    ensures page { λ r. ⌜ drop r (now (text .exit)) ≡ pageFrom (firstOf index) (now (questions .entry)) ⌝ }
 {
-    let page = pages::write_page(questions, first_of(turn), text);
+    let page = pages::write_page(questions, first_of(index), text);
     let Page::From(start) = page else {
         // Never: the law `pieces-fit`.
         return text.len();
@@ -110,9 +111,10 @@ fn page_of(turn: u32, questions: &[u8], text: &mut [u8]) -> usize
     start
 }
 
-// Writes a page: the lines of the bytes that came of a piece, numbered on, and nothing else. Answers whether that went well.
-fn print(turn: u32, piece: &[u8], input: Input, page: &[u8]) -> bool
-    requires { ⌜ now page ≡ pageFrom (firstOf turn) (answeredPart (input .«has_failed») (input .bytes) (now piece)) ⌝ }
+// Writes a page, and nothing else, and answers whether that went well. No definition gives the answer: it is the system's. What is
+// written is said by `requires`: the page of the bytes that came of a piece, numbered on. `index`, `piece` and `input` are there for it.
+fn print(index: u32, piece: &[u8], input: Input, page: &[u8]) -> bool
+    requires { ⌜ now page ≡ pageFrom (firstOf index) (answeredPart (input .«has_failed») (input .bytes) (now piece)) ⌝ }
 {
     let is_written = io::write_all(STDOUT_FILENO, page);
     if !is_written {
@@ -121,16 +123,16 @@ fn print(turn: u32, piece: &[u8], input: Input, page: &[u8]) -> bool
     is_written
 }
 
-// Reads a piece, makes its page and writes it. The text then ends with the page of what came.
-fn answer_piece(turn: u32, piece: &mut [u8], text: &mut [u8]) -> Outcome
+// Reads a piece, makes its page and writes it. The text then ends with that page.
+fn answer_piece(index: u32, piece: &mut [u8], text: &mut [u8]) -> Outcome
     requires { ⌜ length (now piece) ≡ pieceBytes ⌝ }
     requires { ⌜ length (now text) ≡ textBytes ⌝ }
-    ensures { λ r. ⌜ EndsWith (now (text .exit)) (pageFrom (firstOf turn) (answeredPart (r .input .«has_failed») (r .input .bytes) (now (piece .exit)))) ⌝ }
+    ensures { λ r. ⌜ EndsWith (now (text .exit)) (pageFrom (firstOf index) (answeredPart (r .input .«has_failed») (r .input .bytes) (now (piece .exit)))) ⌝ }
 {
     let input = fill(piece);
     let end = answered_bytes(input);
-    let start = page_of(turn, &piece[0..end], text);
-    let is_written = print(turn, piece, input, &text[start..]);
+    let start = page_of(index, &piece[0..end], text);
+    let is_written = print(index, piece, input, &text[start..]);
     Outcome { input, is_written }
 }
 
@@ -146,8 +148,8 @@ fn does_go_on(outcome: Outcome) -> bool
 fn main() {
     let mut piece = [0u8; PIECE_BYTES];
     let mut text = [0u8; TEXT_BYTES];
-    let mut turn: u32 = 0;
-    while turn < u32::MAX && does_go_on(answer_piece(turn, &mut piece, &mut text)) {
-        turn += 1;
+    let mut index: u32 = 0;
+    while index < u32::MAX && does_go_on(answer_piece(index, &mut piece, &mut text)) {
+        index += 1;
     }
 }

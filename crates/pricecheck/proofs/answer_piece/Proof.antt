@@ -14,7 +14,7 @@ made : (p : tie.After-page-of) →
     (let filled = p .before .before .before .before .before .before .before in
     let s = filled .before .before .before .before in
     drop (p .page-of .result) (p .page-of .last .1 .1 .0) ≡
-    pageFrom (firstOf (s .args .turn)) (answeredPart (filled .fill .result .«has_failed») (filled .fill .result .bytes) (filled .fill .last .0)))
+    pageFrom (firstOf (s .args .index)) (answeredPart (filled .fill .result .«has_failed») (filled .fill .result .bytes) (filled .fill .last .0)))
 made p =
     let answered = p .before .before .before .before .answered-bytes in
     let from-0 : answered .result - 0 ≡ answered .result = omega arith in

@@ -1,4 +1,4 @@
--- The turns that may still come are fewer with each.
+-- The pieces that may still come are fewer with each.
 use borrow.Author.Needs.{needs}
 use mathlib.Core.Path.{_≡_}
 use Prim.Native.Nat.{ℕ, _-_}
@@ -9,10 +9,10 @@ use Rattle.pricecheck.proofs.main.Statement.{statement}
 use Rattle.pricecheck.proofs.main.Tie as tie
 
 abbrev Inv-loop : tie.InvT-loop
-Inv-loop piece₀ text₀ turn₀ piece text turn = (length piece ≡ pieceBytes) × (length text ≡ textBytes)
+Inv-loop piece₀ text₀ index₀ piece text index = (length piece ≡ pieceBytes) × (length text ≡ textBytes)
 
 abbrev μ-loop : tie.MeasureT-loop
-μ-loop piece₀ text₀ turn₀ piece text turn = 4294967295 - turn
+μ-loop piece₀ text₀ index₀ piece text index = 4294967295 - index
 
 loop-again : tie.Need-loop-again Inv-loop μ-loop
 loop-again c = (c .before .before .before .piece2 .given, c .before .before .text2 .given)

@@ -28,7 +28,7 @@ never k s text h m n e =
 -- what the call answers
 placed : (w : tie.After-write-page) →
     (let s = w .before .before .before .before .before in
-    w .write-page .result ≡ pagePlace (ladder phase1) fivePercent (firstOf (s .args .turn)) (s .args .questions .now) (s .args .text .now))
+    w .write-page .result ≡ pagePlace (ladder phase1) fivePercent (firstOf (s .args .index)) (s .args .questions .now) (s .args .text .now))
 placed w = rw (← (w .before .before .first-of .ensures)) (w .write-page .ensures .0)
 
 returns : tie.Need-returns
@@ -36,7 +36,7 @@ returns c =
     let w = c .before .before .before .before in
     let s = w .before .before .before .before .before in
     absurd
-    (never (s .args .turn) (s .args .questions .now) (s .args .text .now) (omega arith) (s .pre .0) (s .pre .1)
+    (never (s .args .index) (s .args .questions .now) (s .args .text .now) (omega arith) (s .pre .0) (s .pre .1)
     (sym (c .enum-told .given .1) ∙ placed w))
 
 returns-2 : tie.Need-returns-2
@@ -44,10 +44,10 @@ returns-2 c =
     let w = c .before .before .before .before .before in
     let s = w .before .before .before .before .before in
     let start = c .before .page .given .0 .0 in
-    let at : pagePlace (ladder phase1) fivePercent (firstOf (s .args .turn)) (s .args .questions .now) (s .args .text .now) ≡ From start =
+    let at : pagePlace (ladder phase1) fivePercent (firstOf (s .args .index)) (s .args .questions .now) (s .args .text .now) ≡ From start =
     sym (placed w) ∙ c .before .page .given .1 in
-    let stands = page-stands (ladder phase1) fivePercent (firstOf (s .args .turn)) (s .args .questions .now) (s .args .text .now) start at in
-    let there : StandsFrom start (pageFrom (firstOf (s .args .turn)) (s .args .questions .now)) (w .write-page .last .1 .1 .0) =
+    let stands = page-stands (ladder phase1) fivePercent (firstOf (s .args .index)) (s .args .questions .now) (s .args .text .now) start at in
+    let there : StandsFrom start (pageFrom (firstOf (s .args .index)) (s .args .questions .now)) (w .write-page .last .1 .1 .0) =
     rw (w .write-page .ensures .1, w .before .before .first-of .ensures) stands in
     (omega (arith, there .inside, c .before .before .before .before .text .given, s .pre .1), there .is-page)
 
