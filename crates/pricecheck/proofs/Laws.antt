@@ -15,7 +15,7 @@ use Rattle.facts.proofs.Tests.{and-left, and-right}
 use Rattle.limits.specs.Limits.{fivePercent}
 use Rattle.questions.specs.Record.{Bytes, countOf}
 use Rattle.pages.specs.Pages.{lineRoom, leftRoom}
-use Rattle.pages.proofs.Laws.{pages-join}
+use Rattle.pages.proofs.Laws.{page-laws}
 use Rattle.pricecheck.specs.Run.{pageFrom, pieceBytes, textBytes, firstOf, answeredPart, goesOn, runFrom}
 use Rattle.pricecheck.specs.Laws.{joined, allFull, pagesFrom, PiecesJoin, fullPieces, RunIsPrinted, PiecesFit, PricecheckLaws}
 
@@ -23,7 +23,7 @@ use Rattle.pricecheck.specs.Laws.{joined, allFull, pagesFrom, PiecesJoin
 one-piece : (k : ℕ) (s t : Bytes) → length s ≡ pieceBytes → pageFrom (firstOf k) (s ++ t) ≡ pageFrom (firstOf k) s ++ pageFrom (firstOf (suc k)) t
 one-piece k s t full =
     let next : firstOf k + countOf (length s) ≡ firstOf (suc k) = omega (arith, full) in
-    pages-join (ladder phase1) fivePercent (firstOf k) s t (omega (arith, full)) ∙
+    page-laws .pages-join (ladder phase1) fivePercent (firstOf k) s t (omega (arith, full)) ∙
     ap (λ (n : ℕ). pageFrom (firstOf k) s ++ pageFrom n t) next
 
 from-piece : (k : ℕ) (pieces : List Bytes) (last : Bytes) → T (allFull pieces) →

@@ -12,7 +12,7 @@ use Rattle.limits.specs.Limits.{fivePercent}
 use Rattle.pages.specs.declared.Page.the-variants.{From, Refused}
 use Rattle.pages.specs.Pages.{pagePlace}
 use Rattle.pages.specs.Laws.{StandsFrom}
-use Rattle.pages.proofs.Laws.{page-stands}
+use Rattle.pages.proofs.Laws.{page-laws}
 use Rattle.pricecheck.specs.Run.{pageFrom, pieceBytes, textBytes, firstOf}
 use Rattle.pricecheck.proofs.Laws.{pieces-fit}
 use Rattle.pricecheck.proofs.page_of.Statement.{statement}
@@ -46,7 +46,7 @@ returns-2 c =
     let start = c .before .page .given .0 .0 in
     let at : pagePlace (ladder phase1) fivePercent (firstOf (s .args .index)) (s .args .questions .now) (s .args .text .now) ≡ From start =
     sym (placed w) ∙ c .before .page .given .1 in
-    let stands = page-stands (ladder phase1) fivePercent (firstOf (s .args .index)) (s .args .questions .now) (s .args .text .now) start at in
+    let stands = page-laws .page-stands (ladder phase1) fivePercent (firstOf (s .args .index)) (s .args .questions .now) (s .args .text .now) start at in
     let there : StandsFrom start (pageFrom (firstOf (s .args .index)) (s .args .questions .now)) (w .write-page .last .1 .1 .0) =
     rw (w .write-page .ensures .1, w .before .before .first-of .ensures) stands in
     (omega (arith, there .inside, c .before .before .before .before .text .given, s .pre .1), there .is-page)
