@@ -22,7 +22,7 @@ use Rattle.ladder.proofs.Tables.Landing.{lands-under, lands-over, lands
 -- ---- inside the ladder
 
 module _ (t : List Band) (wf : T (wellFormed t)) (scale y : ℕ) (low : scale * firstPrice (ladder t) < y) (high : y ≤ scale * lastPrice (ladder t)) where
-  scaled : 0 < scale
+  pub scaled : 0 < scale
   scaled =
       ⊎-elim (λ e. let h : y ≤ 0 * lastPrice (ladder t) = rw e at high in omega (arith, zero-mul (lastPrice (ladder t)))) (λ h. h)
       (eq-zero-or-pos scale)

@@ -1,8 +1,10 @@
--- One answer a turn, each after those before it.
+-- One answer after the other, each after those before it.
 use borrow.Author.Needs.{needs}
 use mathlib.Core.Path.{_≡_, refl, ap, _∙_}
-use Prim.Native.Nat.{_+_, _-_, _*_, _≤_}
-use lib.ListN.{length}
+use Prim.Native.Nat.{ℕ, _+_, _-_, _*_, _≤_}
+use lib.ListN.{length, take, drop}
+use Rattle.judging.specs.declared.Answer.{Answer}
+use Rattle.judging.specs.Answers.{judged}
 use Rattle.questions.specs.Record.{questionBytes}
 use Rattle.batch.specs.Record.{answerBytes, encoded}
 use Rattle.batch.proofs.Buffer.{length-answered, one-more}
@@ -39,10 +41,12 @@ loop-again c =
     let s = at .before .before .before .before in
     let k = at .loop .k in
     let one-question : k * questionBytes + questionBytes - k * questionBytes ≡ questionBytes = omega arith in
+    let answered-by : ℕ → Answer =
+    λ n. judged (pricesOf (s .args .table .now)) (s .args .percentage) (take n (drop (k * questionBytes) (s .args .questions .now))) in
     let one-answer : k * answerBytes + answerBytes - k * answerBytes ≡ answerBytes = omega arith in (
       one-more (pricesOf (s .args .table .now)) (s .args .percentage) (s .args .questions .now) k _ (s .args .answers .now) (at .loop .answers)
           (c .before .before .encode .last .0) one-answer (at .loop .inv .0)
-          (c .before .before .encode .ensures ∙ ap encoded (c .before .before .before .before .judge .ensures ∙ rw one-question)),
+          (c .before .before .encode .ensures ∙ ap encoded (c .before .before .before .before .judge .ensures ∙ ap answered-by one-question)),
       omega arith,
     )
 

@@ -4,7 +4,7 @@ use denote.Ref.{now}
 use borrow.Author.Needs.{needs}
 use native.Mathlib.Omega.{arith}
 use Rattle.ladder.specs.Layout.{bandsOf}
-use Rattle.ladder.proofs.Tables.Gaps.{inside, divisor, starts-below, gap-fits, spreads-fit, is-between}
+use Rattle.ladder.proofs.Tables.Gaps.{scaled, inside, divisor, starts-below, gap-fits, spreads-fit, is-between}
 use Rattle.ladder.proofs.rounding.between.Statement.{statement}
 use Rattle.ladder.proofs.rounding.between.Tie as tie
 
@@ -31,8 +31,9 @@ div-spreads c =
     let t = bandsOf (now (s .args .table)) in
     let k = c .before .before .before .bands-below in
     let b = c .before .before .band-at in
-    rw (c .product2 .ensures)
-    (divisor t (s .pre .0) (s .args .scale) (s .args .y) (s .pre .1 .0) (s .pre .1 .1) (k .result) (k .ensures) (b .result) (b .ensures))
+    let positive = divisor t (s .pre .0) (s .args .scale) (s .args .y) (s .pre .1 .0) (s .pre .1 .1) (k .result) (k .ensures) (b .result) (b .ensures) in
+    let scale-positive = scaled t (s .pre .0) (s .args .scale) (s .args .y) (s .pre .1 .0) (s .pre .1 .1) in
+    omega (arith, c .product2 .ensures, positive, scale-positive)
 
 -- the lower neighbour, and the upper one, lie within the band
 bounds : (c : tie.After-product2) →

@@ -1,10 +1,11 @@
--- One line a turn, each before those after it.
+-- One line after the other, each before those after it.
 use borrow.Author.Needs.{needs}
 use mathlib.Core.Path.{_≡_, _∙_, ap}
 use Prim.Native.Nat.{ℕ, suc, _+_, _-_, _*_, _≤_}
 use native.Mathlib.Omega.{arith}
 use mathlib.Core.List.{List, _++_}
-use lib.ListN.{length}
+use lib.ListN.{length, take, drop}
+use Rattle.judging.specs.declared.Answer.{Answer}
 use Rattle.text.specs.Ending.{Filled}
 use Rattle.text.proofs.Laws.{text-laws}
 use Rattle.ladder.specs.Layout.{pricesOf}
@@ -51,8 +52,9 @@ loop-again c =
     let prices = pricesOf (s .args .table .now) in
     let asked = questionAt (k - 1) (s .args .questions .now) in
     let one-question : (k - 1) * questionBytes + questionBytes - (k - 1) * questionBytes ≡ questionBytes = omega arith in
+    let answered-by : ℕ → Answer = λ n. judged prices (s .args .percentage) (take n (drop ((k - 1) * questionBytes) (s .args .questions .now))) in
     let answer : c .before .before .before .before .judge .result ≡ judged prices (s .args .percentage) asked =
-    c .before .before .before .before .judge .ensures ∙ rw one-question in (
+    c .before .before .before .before .judge .ensures ∙ ap answered-by one-question in (
       omega arith,
       omega (arith, l .loop .inv .1, c .before .before .put-line .ensures .1 .0),
       text-laws .filled-by-parts _ _ _ .further _ _ _ (l .loop .inv .2) (s .pre .1 .1 .1 .1) _ (line (s .args .first + (k - 1)) (judged prices (s .args .percentage) asked))
