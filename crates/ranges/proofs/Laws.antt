@@ -27,7 +27,7 @@ use Rattle.ranges.specs.declared.Reading.{Reading}
 use Rattle.ranges.specs.declared.Reading.the-variants.{Permitted, Refused}
 use Rattle.ranges.specs.Bounds.{bottom, top}
 use Rattle.ranges.specs.Permitted.{buyReference, sellReference, lowestOf, highestOf, rangeOf}
-use Rattle.ranges.specs.Readings.{readingBy, readingOn, readingOf}
+use Rattle.ranges.specs.Readings.{inOrder, readingBy, readingOn, readingOf}
 use Rattle.ranges.specs.Laws.{On, StayOn, ReferencesStayOn, EndsOnLadder, BoundsOnLadder, RangeLaws}
 use Rattle.ranges.proofs.OnLadder.{above-on, below-on, stay-on}
 
@@ -179,18 +179,20 @@ bounds-on-ladder t wf percent c r range = by-codes (unknownCode c)
     q : Queues
     q = queuesOf (c .queue) r
 
+    -- a range only where no check applies
     by-checks : (off disagrees alone : Bool) → anyOff (ladder t) r ≡ off →
-        cond off (Refused OffLadder)
-        (cond disagrees (Refused Disagreement)
-        (cond alone (Refused NoOpposite)
-        (Permitted (rangeOf (ladder t) percent rule q r)))) ≡ Permitted range → EndsOnLadder t range
-    by-checks true b d e f = refused-or-permitted _ _ f
-    by-checks false true d e f = refused-or-permitted _ _ f
-    by-checks false false true e f = refused-or-permitted _ _ f
-    by-checks false false false e f =
-        let all = all-on t wf percent r e in
+        inOrder off disagrees alone (Permitted (rangeOf (ladder t) percent rule q r)) ≡ Permitted range → EndsOnLadder t range
+    by-checks true true true a e = refused-or-permitted _ _ e
+    by-checks true true false a e = refused-or-permitted _ _ e
+    by-checks true false true a e = refused-or-permitted _ _ e
+    by-checks true false false a e = refused-or-permitted _ _ e
+    by-checks false true true a e = refused-or-permitted _ _ e
+    by-checks false true false a e = refused-or-permitted _ _ e
+    by-checks false false true a e = refused-or-permitted _ _ e
+    by-checks false false false a e =
+        let all = all-on t wf percent r a in
         let queues = queues-on t wf percent (c .queue) r all in
-        rw (← (ap (rangeIn range) f))
+        rw (← (ap (rangeIn range) e))
         (record { lowest-on = lowest-on t wf percent q r queues all rule; highest-on = highest-on t wf percent q r queues all rule })
 
     by-codes : (unknown : Bool) → readingOn (ladder t) percent (cond unknown Unknown (Chosen rule q)) r ≡ Permitted range → EndsOnLadder t range

@@ -17,13 +17,17 @@ use Rattle.ranges.specs.declared.Reading.{Reading}
 use Rattle.ranges.specs.declared.Reading.the-variants.{Permitted, Refused}
 use Rattle.ranges.specs.Permitted.{rangeOf}
 
--- checks 3 to 5, of a question whose codes choose a rule and queues
+-- checks 3 to 5 in order, and what follows where none of them applies
+abbrev pub inOrder : Bool → Bool → Bool → Reading → Reading
+inOrder off disagrees alone next =
+    cond off (Refused OffLadder)
+    (cond disagrees (Refused Disagreement)
+    (cond alone (Refused NoOpposite)
+    next))
+
+-- the reading of a question whose codes choose a rule and queues
 unfoldable pub readingBy : Prices → Percentage → Rule → Queues → References → Reading
-readingBy l percent rule q r =
-    cond (anyOff l r) (Refused OffLadder)
-    (cond (disagree q r) (Refused Disagreement)
-    (cond (unopposed rule q) (Refused NoOpposite)
-    (Permitted (rangeOf l percent rule q r))))
+readingBy l percent rule q r = inOrder (anyOff l r) (disagree q r) (unopposed rule q) (Permitted (rangeOf l percent rule q r))
 
 -- check 2 before them: the codes choose nothing
 abbrev pub readingOn : Prices → Percentage → Choice → References → Reading

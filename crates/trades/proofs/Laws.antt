@@ -26,28 +26,6 @@ use Rattle.trades.specs.Trades.{anyTradeOff, tradeDisagrees, tradeRange,
 use Rattle.trades.specs.Laws.{isTradeRefusal, Numbers, TradeNumbers, FromTo, TradeRange, TradeLaws}
 use Rattle.trades.proofs.Pairs.{paired, range-rises, limits-paired}
 
--- a trade with a range gets 0, 6, 8 or 9
-priced : (l : Prices) (range : Range) (p : ℕ) → Numbers (tradeBy l (Permitted range) p)
-unfolding tradeVerdict
-priced l range p = go (outside l p) (belowLowest range p) (aboveHighest range p)
-  where
-    go : (o b a : Bool) →
-        Numbers (record { number = verdictNumber (cond o OutsideLadder (cond b BelowLowest (cond a AboveHighest Accepted))); lowest = range .lowest; highest = range .highest })
-    go true b a = record { one-of = tt; refused = λ h. absurd h }
-    go false true a = record { one-of = tt; refused = λ h. absurd h }
-    go false false true = record { one-of = tt; refused = λ h. absurd h }
-    go false false false = record { one-of = tt; refused = λ h. absurd h }
-
-trade-numbers : TradeNumbers
-unfolding tradeJudged tradeReading
-trade-numbers l percent p d = go (anyTradeOff l d) (tradeDisagrees d)
-  where
-    go : (off disagrees : Bool) →
-        Numbers (tradeBy l (cond off (Refused OffLadder) (cond disagrees (Refused Disagreement) (Permitted (tradeRange l percent d)))) p)
-    go true b = record { one-of = tt; refused = λ h. refl }
-    go false true = record { one-of = tt; refused = λ h. refl }
-    go false false = priced l (tradeRange l percent d) p
-
 -- ---- the range
 
 -- a price from lowest to highest is within the ends of the ladder, so the verdict accepts it
@@ -119,6 +97,30 @@ trade-range t wf percent p r not-refused = go (anyTradeOff (ladder t) r) (tradeD
     go true b e f n = absurd (n tt)
     go false true e f n = absurd (n tt)
     go false false e f n = on-and-paired t wf percent r e f p
+
+-- ---- the numbers
+
+-- a trade with a range gets 0, 6, 8 or 9
+priced : (l : Prices) (range : Range) (p : ℕ) → Numbers (tradeBy l (Permitted range) p)
+unfolding tradeVerdict
+priced l range p = go (outside l p) (belowLowest range p) (aboveHighest range p)
+  where
+    go : (o b a : Bool) →
+        Numbers (record { number = verdictNumber (cond o OutsideLadder (cond b BelowLowest (cond a AboveHighest Accepted))); lowest = range .lowest; highest = range .highest })
+    go true b a = record { one-of = tt; refused = λ h. absurd h }
+    go false true a = record { one-of = tt; refused = λ h. absurd h }
+    go false false true = record { one-of = tt; refused = λ h. absurd h }
+    go false false false = record { one-of = tt; refused = λ h. absurd h }
+
+trade-numbers : TradeNumbers
+unfolding tradeJudged tradeReading
+trade-numbers l percent p d = go (anyTradeOff l d) (tradeDisagrees d)
+  where
+    go : (off disagrees : Bool) →
+        Numbers (tradeBy l (cond off (Refused OffLadder) (cond disagrees (Refused Disagreement) (Permitted (tradeRange l percent d)))) p)
+    go true b = record { one-of = tt; refused = λ h. refl }
+    go false true = record { one-of = tt; refused = λ h. refl }
+    go false false = priced l (tradeRange l percent d) p
 
 pub trade-laws : TradeLaws
 trade-laws = record { trade-numbers = trade-numbers; trade-range = trade-range }
