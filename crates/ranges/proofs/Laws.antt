@@ -143,23 +143,24 @@ module _ (t : Table) (wf : T (wellFormed t)) (percent : Percentage) where
     or-top : (x : Reference) → On t x → T (isLadderPrice (priceOr (top (ladder t)) x) t)
     or-top x h = stay .price-on _ x (ladder-laws .ends-are-the-tables t wf .last-on) h
 
+    -- whichever quote a rule goes by, it is on the ladder
     lowest-on : (rule : Rule) → T (isLadderPrice (lowestOf (ladder t) percent rule q r) t)
     unfolding lowestOf
     lowest-on BuyLimit = or-bottom _ (stay .lower-on _ (buy-on q _ _ queues (all .previous-close) (all .day-low)))
     lowest-on BuyEnhanced = or-bottom _ (stay .lower-on _ (buy-on q _ _ queues (all .previous-close) (all .day-low)))
-    lowest-on BuySpecial = or-bottom _ (ask-on q queues)
-    lowest-on SellLimit = or-bottom _ (bid-on q queues)
-    lowest-on SellEnhanced = or-bottom _ (below-on t wf _ (bid-on q queues))
+    lowest-on BuySpecial = search (or-bottom (askOf q) (ask-on q queues), or-bottom (bidOf q) (bid-on q queues))
+    lowest-on SellLimit = search (or-bottom (askOf q) (ask-on q queues), or-bottom (bidOf q) (bid-on q queues))
+    lowest-on SellEnhanced = search (or-bottom _ (below-on t wf (askOf q) (ask-on q queues)), or-bottom _ (below-on t wf (bidOf q) (bid-on q queues)))
     lowest-on SellSpecial = ladder-laws .ends-are-the-tables t wf .first-on
 
     highest-on : (rule : Rule) → T (isLadderPrice (highestOf (ladder t) percent rule q r) t)
     unfolding highestOf
-    highest-on BuyLimit = or-top _ (ask-on q queues)
-    highest-on BuyEnhanced = or-top _ (above-on t wf _ (ask-on q queues))
+    highest-on BuyLimit = search (or-top (askOf q) (ask-on q queues), or-top (bidOf q) (bid-on q queues))
+    highest-on BuyEnhanced = search (or-top _ (above-on t wf (askOf q) (ask-on q queues)), or-top _ (above-on t wf (bidOf q) (bid-on q queues)))
     highest-on BuySpecial = ladder-laws .ends-are-the-tables t wf .last-on
     highest-on SellLimit = or-top _ (stay .upper-on _ (sell-on q _ _ queues (all .previous-close) (all .day-high)))
     highest-on SellEnhanced = or-top _ (stay .upper-on _ (sell-on q _ _ queues (all .previous-close) (all .day-high)))
-    highest-on SellSpecial = or-top _ (bid-on q queues)
+    highest-on SellSpecial = search (or-top (askOf q) (ask-on q queues), or-top (bidOf q) (bid-on q queues))
 
 -- the range of a reading; of a refusal none is asked for
 rangeIn : Range → Reading → Range

@@ -94,13 +94,14 @@ fn lowest_of(
     ensures { λ r. ⌜ r ≡ lowestOf (pricesOf (now (table .entry))) percentage rule queues references ⌝ }
 {
     let bottom = table::first_price(table);
-    let ask = rules::ask_of(queues);
-    let bid = rules::bid_of(queues);
     match rule {
         Rule::BuyLimit | Rule::BuyEnhanced => buy_lowest(table, percentage, queues, references),
-        Rule::BuySpecial => missing::price_or(ask, bottom),
-        Rule::SellLimit => missing::price_or(bid, bottom),
-        Rule::SellEnhanced => missing::price_or(bounds::enhanced_below(table, bid), bottom),
+        Rule::BuySpecial => missing::price_or(rules::ask_of(queues), bottom),
+        Rule::SellLimit => missing::price_or(rules::bid_of(queues), bottom),
+        Rule::SellEnhanced => missing::price_or(
+            bounds::enhanced_below(table, rules::bid_of(queues)),
+            bottom,
+        ),
         Rule::SellSpecial => bottom,
     }
 }
@@ -117,14 +118,15 @@ fn highest_of(
     ensures { λ r. ⌜ r ≡ highestOf (pricesOf (now (table .entry))) percentage rule queues references ⌝ }
 {
     let top = table::last_price(table);
-    let ask = rules::ask_of(queues);
-    let bid = rules::bid_of(queues);
     match rule {
-        Rule::BuyLimit => missing::price_or(ask, top),
-        Rule::BuyEnhanced => missing::price_or(bounds::enhanced_above(table, ask), top),
+        Rule::BuyLimit => missing::price_or(rules::ask_of(queues), top),
+        Rule::BuyEnhanced => missing::price_or(
+            bounds::enhanced_above(table, rules::ask_of(queues)),
+            top,
+        ),
         Rule::BuySpecial => top,
         Rule::SellLimit | Rule::SellEnhanced => sell_highest(table, percentage, queues, references),
-        Rule::SellSpecial => missing::price_or(bid, top),
+        Rule::SellSpecial => missing::price_or(rules::bid_of(queues), top),
     }
 }
 
