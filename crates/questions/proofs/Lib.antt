@@ -1,0 +1,2 @@
+-- Laws: the laws that a reader looks for.
+pub mod Laws
