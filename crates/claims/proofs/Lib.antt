@@ -1,5 +1,4 @@
--- Claim: the worked lines, computed. Looking, Answering and Limits are for it alone.
+-- Claim: the worked lines, computed. Limits and Answers are for it alone.
 pub mod Claim
-mod Looking
-mod Answering
 mod Limits
+mod Answers

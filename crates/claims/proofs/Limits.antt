@@ -1,83 +1,93 @@
--- The limits and the nine spreads that the lines ask for: the place of the reference, the price where the spreads end, the percentage limit.
-use mathlib.Core.Path.{_≡_, refl}
-use Rattle.ladder.specs.declared.Found.the-variants.{Price}
-use Rattle.ladder.specs.Bands.{phase1}
-use Rattle.ladder.specs.Ladder.{rungs, bandPrices, ladder}
-use Rattle.ladder.specs.Search.{first, latestAfter}
-use Rattle.ladder.specs.Places.{priceAt}
-use Rattle.ladder.specs.Spreads.{spreadsUp, spreadsDown}
-use Rattle.limits.specs.Limits.{lowerLimit, upperLimit}
-use Rattle.claims.specs.Worked.{prices}
-use Rattle.claims.proofs.Looking.{lower, upper, nine-down, nine-up}
+-- Spreads and limits by places: n spreads are one look at a place of the ladder, and not n walks through it. Over any well-formed table.
+use mathlib.Core.Path.{_≡_, refl, ap, _∙_}
+use Prim.Native.Nat.{ℕ, _+_, _-_, min, max}
+use native.Mathlib.Omega.{arith}
+use mathlib.Core.Bool.{Bool, true, false, cond}
+use lib.Dec.{T}
+use lib.ListN.{length}
+use Rattle.ladder.specs.declared.Found.{Found}
+use Rattle.ladder.specs.declared.Found.the-variants.{Price, Nothing}
+use Rattle.ladder.specs.declared.Place.{Place}
+use Rattle.ladder.specs.declared.Place.the-variants.{At, OffLadder}
+use Rattle.ladder.specs.Bands.{Table, wellFormed}
+use Rattle.ladder.specs.Ladder.{Prices, ladder, isLadderPrice}
+use Rattle.ladder.specs.Search.{holds}
+use Rattle.ladder.specs.Places.{priceAt, placeOf}
+use Rattle.ladder.specs.Spreads.{spreadUp, spreadDown, times, ifHeld, spreadsUp, spreadsDown}
+use Rattle.ladder.proofs.Laws.{the-ladder, places-are-inverse, going-by-places}
+use Rattle.limits.specs.Limits.{percentLower, percentUpper, lowOf, highOf}
 
-pub low-19890 : lowerLimit prices 19890 ≡ Price 18900
-unfolding phase1 ladder bandPrices rungs priceAt first
-low-19890 = lower 19890 2229 19650 18900 refl refl refl
+-- the spreads of a limit, and of an enhanced limit order
+abbrev pub limitSpreads : ℕ
+limitSpreads = 24
 
-pub low-495 : lowerLimit prices 495 ≡ Price 375
-unfolding phase1 ladder bandPrices rungs priceAt first
-low-495 = lower 495 289 375 475 refl refl refl
+abbrev pub enhancedSpreads : ℕ
+enhancedSpreads = 9
 
-pub low-510 : lowerLimit prices 510 ≡ Price 385
-unfolding phase1 ladder bandPrices rungs priceAt first
-low-510 = lower 510 291 385 485 refl refl refl
+-- n spreads from a place
+abbrev pub upFrom : Prices → ℕ → Place → Found
+upFrom l n (At k) = priceAt (min (k + n) (length l - 1)) l
+upFrom l n OffLadder = Nothing
 
-pub low-34 : lowerLimit prices 34 ≡ Price 10
-unfolding phase1 ladder bandPrices rungs priceAt first
-low-34 = lower 34 24 10 33 refl refl refl
+abbrev pub downFrom : Prices → ℕ → Place → Found
+downFrom l n (At k) = priceAt (k - n) l
+downFrom l n OffLadder = Nothing
 
-pub low-35 : lowerLimit prices 35 ≡ Price 11
-unfolding phase1 ladder bandPrices rungs priceAt first
-low-35 = lower 35 25 11 34 refl refl refl
+-- what is found, made into another price
+abbrev pub withFound : (ℕ → ℕ) → Found → Found
+withFound g (Price q) = Price (g q)
+withFound g Nothing = Nothing
 
-pub low-9995000 : lowerLimit prices 9995000 ≡ Price 9500000
-unfolding phase1 ladder bandPrices rungs priceAt first
-low-9995000 = lower 9995000 11739 9875000 9500000 refl refl refl
+-- the limits: from the price where the spreads end, and the percentage limit
+abbrev pub lowBy : Prices → ℕ → ℕ → ℕ → Found
+lowBy l scale factor r = withFound (λ far. min far (percentLower l scale factor r)) (downFrom l limitSpreads (placeOf r l))
 
-pub low-50000 : lowerLimit prices 50000 ≡ Price 47500
-unfolding phase1 ladder bandPrices rungs priceAt first
-low-50000 = lower 50000 3740 49520 47500 refl refl refl
+abbrev pub highBy : Prices → ℕ → ℕ → ℕ → Found
+highBy l scale factor r = withFound (λ far. max far (percentUpper l scale factor r)) (upFrom l limitSpreads (placeOf r l))
 
-pub low-20200 : lowerLimit prices 20200 ≡ Price 19190
-unfolding phase1 ladder bandPrices rungs priceAt first
-low-20200 = lower 20200 2250 19860 19190 refl refl refl
+-- an answer made into another price is the answer of that price
+held : (p : ℕ) (l : Prices) (g : ℕ → ℕ) (answer : ℕ) → ifHeld p l (g answer) ≡ withFound g (ifHeld p l answer)
+held p l g answer = go (holds p l)
+  where
+    go : (v : Bool) → cond v (Price (g answer)) Nothing ≡ withFound g (cond v (Price answer) Nothing)
+    go true = refl
+    go false = refl
 
-pub low-1000 : lowerLimit prices 1000 ≡ Price 760
-unfolding phase1 ladder bandPrices rungs priceAt first
-low-1000 = lower 1000 340 760 950 refl refl refl
+zero-is-one : _≡_ {A = ℕ} 0 1 → ⊥
+zero-is-one z = omega arith
 
-pub low-10000 : lowerLimit prices 10000 ≡ Price 9500
-unfolding phase1 ladder bandPrices rungs priceAt first
-low-10000 = lower 10000 1240 9760 9500 refl refl refl
+module _ (t : Table) (formed : T (wellFormed t)) where
+  -- a price with no place is not held
+  not-held : (p : ℕ) → placeOf p (ladder t) ≡ OffLadder → holds p (ladder t) ≡ false
+  not-held p off = go (isLadderPrice p t) refl
+    where
+      go : (v : Bool) → isLadderPrice p t ≡ v → holds p (ladder t) ≡ false
+      go false e = the-ladder t formed p ∙ e
+      go true e =
+          let place = places-are-inverse t formed .price-has-place p (rw e tt) in
+          let z : _≡_ {A = ℕ} 0 1 = cc (place .1) in
+          absurd (zero-is-one z)
 
-pub high-500 : upperLimit prices 500 ≡ Price 740
-unfolding phase1 ladder bandPrices rungs priceAt latestAfter
-high-500 = upper 500 290 740 520 refl refl refl
+  pub up-by : (p n : ℕ) → spreadsUp (ladder t) p n ≡ upFrom (ladder t) n (placeOf p (ladder t))
+  up-by p n = go (placeOf p (ladder t)) refl
+    where
+      go : (place : Place) → placeOf p (ladder t) ≡ place → spreadsUp (ladder t) p n ≡ upFrom (ladder t) n place
+      go (At k) e = going-by-places t formed k p n e .up
+      go OffLadder e = rw (not-held p e)
 
-pub high-245 : upperLimit prices 245 ≡ Price 345
-unfolding phase1 ladder bandPrices rungs priceAt latestAfter
-high-245 = upper 245 235 345 255 refl refl refl
+  pub down-by : (p n : ℕ) → spreadsDown (ladder t) p n ≡ downFrom (ladder t) n (placeOf p (ladder t))
+  down-by p n = go (placeOf p (ladder t)) refl
+    where
+      go : (place : Place) → placeOf p (ladder t) ≡ place → spreadsDown (ladder t) p n ≡ downFrom (ladder t) n place
+      go (At k) e = going-by-places t formed k p n e .down
+      go OffLadder e = rw (not-held p e)
 
-pub high-9880000 : upperLimit prices 9880000 ≡ Price 9995000
-unfolding phase1 ladder bandPrices rungs priceAt latestAfter
-high-9880000 = upper 9880000 11716 9995000 9995000 refl refl refl
+  pub low-by : (scale factor r : ℕ) → lowOf (ladder t) scale factor r ≡ lowBy (ladder t) scale factor r
+  low-by scale factor r =
+      held r (ladder t) (λ far. min far (percentLower (ladder t) scale factor r)) (times limitSpreads (spreadDown (ladder t)) r) ∙
+      ap (withFound (λ far. min far (percentLower (ladder t) scale factor r))) (down-by r limitSpreads)
 
-pub high-50000 : upperLimit prices 50000 ≡ Price 52500
-unfolding phase1 ladder bandPrices rungs priceAt latestAfter
-high-50000 = upper 50000 3740 51200 52500 refl refl refl
-
-pub high-1000 : upperLimit prices 1000 ≡ Price 1240
-unfolding phase1 ladder bandPrices rungs priceAt latestAfter
-high-1000 = upper 1000 340 1240 1050 refl refl refl
-
-pub high-10000 : upperLimit prices 10000 ≡ Price 10500
-unfolding phase1 ladder bandPrices rungs priceAt latestAfter
-high-10000 = upper 10000 1240 10240 10500 refl refl refl
-
-pub nine-above-500 : spreadsUp prices 500 9 ≡ Price 590
-unfolding phase1 ladder bandPrices rungs priceAt
-nine-above-500 = nine-up 500 290 590 refl refl
-
-pub nine-below-495 : spreadsDown prices 495 9 ≡ Price 450
-unfolding phase1 ladder bandPrices rungs priceAt
-nine-below-495 = nine-down 495 289 450 refl refl
+  pub high-by : (scale factor r : ℕ) → highOf (ladder t) scale factor r ≡ highBy (ladder t) scale factor r
+  high-by scale factor r =
+      held r (ladder t) (λ far. max far (percentUpper (ladder t) scale factor r)) (times limitSpreads (spreadUp (ladder t)) r) ∙
+      ap (withFound (λ far. max far (percentUpper (ladder t) scale factor r))) (up-by r limitSpreads)

@@ -1,0 +1,158 @@
+-- The answers to orders and trades by places: the definitions of ranges, judging and trades once more, with limits and spreads as in Limits.
+-- Over any well-formed table and any percentage.
+use mathlib.Core.Path.{_≡_, refl, ap}
+use Prim.Native.Nat.{ℕ}
+use mathlib.Core.Bool.{cond}
+use lib.Dec.{T}
+use Rattle.ladder.specs.declared.Found.{Found}
+use Rattle.ladder.specs.Bands.{Table, wellFormed}
+use Rattle.ladder.specs.Ladder.{Prices, ladder}
+use Rattle.ladder.specs.Places.{placeOf}
+use Rattle.limits.specs.declared.Percentage.{Percentage}
+use Rattle.questions.specs.declared.Reference.{Reference}
+use Rattle.questions.specs.declared.Reference.the-variants.{Missing, Price}
+use Rattle.questions.specs.declared.References.{References}
+use Rattle.questions.specs.declared.Queues.{Queues}
+use Rattle.questions.specs.declared.Rule.{Rule}
+use Rattle.questions.specs.declared.Rule.the-variants.{BuyLimit, BuyEnhanced, BuySpecial, SellLimit, SellEnhanced, SellSpecial}
+use Rattle.questions.specs.declared.Choice.{Choice}
+use Rattle.questions.specs.declared.Choice.the-variants.{Chosen, Unknown}
+use Rattle.questions.specs.declared.Decoded.{Decoded}
+use Rattle.questions.specs.declared.Decoded.the-variants.{Asked, WrongLength}
+use Rattle.questions.specs.Missing.{least, greatest, priceOr}
+use Rattle.questions.specs.Record.{Bytes, decoded}
+use Rattle.questions.specs.Checks.{anyOff, disagree, unopposed}
+use Rattle.rules.specs.Rules.{chosen, askOf, bidOf}
+use Rattle.ranges.specs.declared.Refusal.the-variants.{UnknownCode, OffLadder, Disagreement, NoOpposite}
+use Rattle.ranges.specs.declared.Reading.{Reading}
+use Rattle.ranges.specs.declared.Reading.the-variants.{Permitted, Refused}
+use Rattle.ranges.specs.Bounds.{asReference, Low, High, nineSpreadsAbove, nineSpreadsBelow, bottom, top}
+use Rattle.ranges.specs.Permitted.{buyReference, sellReference, lowestOf, highestOf, nineFoldReference, rangeOf}
+use Rattle.ranges.specs.Readings.{readingBy, readingOn, readingOf}
+use Rattle.judging.specs.declared.Answer.{Answer}
+use Rattle.judging.specs.Numbers.{wrongLength}
+use Rattle.judging.specs.Answers.{noneShown, answerBy, answerDecoded, judged}
+use Rattle.trades.specs.declared.TradeReferences.{TradeReferences}
+use Rattle.trades.specs.Trades.{anyTradeOff, tradeDisagrees, tradeReading, tradeBy, tradeJudged}
+use Rattle.claims.proofs.Limits.{enhancedSpreads, upFrom, downFrom, lowBy, highBy, up-by, down-by, low-by, high-by}
+
+-- ---- the definitions
+
+-- what is found from a reference
+abbrev from : (ℕ → Found) → Reference → Reference
+from find Missing = Missing
+from find (Price r) = asReference (find r)
+
+abbrev lowLimit : Prices → Percentage → Reference → Reference
+lowLimit l percent r = from (lowBy l (percent .scale) (percent .lower)) r
+
+abbrev highLimit : Prices → Percentage → Reference → Reference
+highLimit l percent r = from (highBy l (percent .scale) (percent .upper)) r
+
+abbrev spreadsAbove : Prices → Reference → Reference
+spreadsAbove l r = from (λ p. upFrom l enhancedSpreads (placeOf p l)) r
+
+abbrev spreadsBelow : Prices → Reference → Reference
+spreadsBelow l r = from (λ p. downFrom l enhancedSpreads (placeOf p l)) r
+
+unfoldable pub lowestBy : Prices → Percentage → Rule → Queues → References → ℕ
+lowestBy l percent BuyLimit q r = priceOr (bottom l) (lowLimit l percent (buyReference q (r .«previous_close») (r .«day_low»)))
+lowestBy l percent BuyEnhanced q r = priceOr (bottom l) (lowLimit l percent (buyReference q (r .«previous_close») (r .«day_low»)))
+lowestBy l percent BuySpecial q r = priceOr (bottom l) (askOf q)
+lowestBy l percent SellLimit q r = priceOr (bottom l) (bidOf q)
+lowestBy l percent SellEnhanced q r = priceOr (bottom l) (spreadsBelow l (bidOf q))
+lowestBy l percent SellSpecial q r = bottom l
+
+unfoldable pub highestBy : Prices → Percentage → Rule → Queues → References → ℕ
+highestBy l percent BuyLimit q r = priceOr (top l) (askOf q)
+highestBy l percent BuyEnhanced q r = priceOr (top l) (spreadsAbove l (askOf q))
+highestBy l percent BuySpecial q r = top l
+highestBy l percent SellLimit q r = priceOr (top l) (highLimit l percent (sellReference q (r .«previous_close») (r .«day_high»)))
+highestBy l percent SellEnhanced q r = priceOr (top l) (highLimit l percent (sellReference q (r .«previous_close») (r .«day_high»)))
+highestBy l percent SellSpecial q r = priceOr (top l) (bidOf q)
+
+abbrev reading : Prices → Percentage → Choice → References → Reading
+reading l percent Unknown r = Refused UnknownCode
+reading l percent (Chosen rule q) r =
+    cond (anyOff l r) (Refused OffLadder)
+    (cond (disagree q r) (Refused Disagreement)
+    (cond (unopposed rule q) (Refused NoOpposite)
+    (Permitted (record {
+      lowest = lowestBy l percent rule q r;
+      highest = highestBy l percent rule q r;
+      «nine_fold» = nineFoldReference q (r .«previous_close») (r .nominal);
+    }))))
+
+abbrev answer : Prices → Percentage → Decoded → Answer
+answer l percent (Asked q) = answerBy l (reading l percent (chosen (q .codes) (q .references)) (q .references)) (q .price)
+answer l percent WrongLength = noneShown wrongLength
+
+unfoldable pub judgedBy : Prices → Percentage → Bytes → Answer
+judgedBy l percent s = answer l percent (decoded s)
+
+unfoldable pub tradeJudgedBy : Prices → Percentage → ℕ → TradeReferences → Answer
+tradeJudgedBy l percent p r =
+    tradeBy l
+    (cond (anyTradeOff l r) (Refused OffLadder)
+    (cond (tradeDisagrees r) (Refused Disagreement)
+    (Permitted (record {
+      lowest = priceOr (bottom l) (least (lowLimit l percent (r .«previous_close»)) (least (r .«lowest_bid») (r .«lowest_ask»)));
+      highest = priceOr (top l) (greatest (highLimit l percent (r .«previous_close»)) (greatest (r .«highest_bid») (r .«highest_ask»)));
+      «nine_fold» = Missing;
+    }))))
+    p
+
+-- ---- they are the same
+
+module _ (t : Table) (formed : T (wellFormed t)) (percent : Percentage) where
+  same-low : (r : Reference) → Low (ladder t) percent r ≡ lowLimit (ladder t) percent r
+  same-low Missing = refl
+  same-low (Price r) = ap asReference (low-by t formed (percent .scale) (percent .lower) r)
+
+  same-high : (r : Reference) → High (ladder t) percent r ≡ highLimit (ladder t) percent r
+  same-high Missing = refl
+  same-high (Price r) = ap asReference (high-by t formed (percent .scale) (percent .upper) r)
+
+  same-above : (r : Reference) → nineSpreadsAbove (ladder t) r ≡ spreadsAbove (ladder t) r
+  same-above Missing = refl
+  same-above (Price r) = ap asReference (up-by t formed r enhancedSpreads)
+
+  same-below : (r : Reference) → nineSpreadsBelow (ladder t) r ≡ spreadsBelow (ladder t) r
+  same-below Missing = refl
+  same-below (Price r) = ap asReference (down-by t formed r enhancedSpreads)
+
+  same-lowest : (rule : Rule) (q : Queues) (r : References) → lowestOf (ladder t) percent rule q r ≡ lowestBy (ladder t) percent rule q r
+  unfolding lowestOf lowestBy
+  same-lowest BuyLimit q r = ap (priceOr (bottom (ladder t))) (same-low (buyReference q (r .«previous_close») (r .«day_low»)))
+  same-lowest BuyEnhanced q r = ap (priceOr (bottom (ladder t))) (same-low (buyReference q (r .«previous_close») (r .«day_low»)))
+  same-lowest BuySpecial q r = refl
+  same-lowest SellLimit q r = refl
+  same-lowest SellEnhanced q r = ap (priceOr (bottom (ladder t))) (same-below (bidOf q))
+  same-lowest SellSpecial q r = refl
+
+  same-highest : (rule : Rule) (q : Queues) (r : References) → highestOf (ladder t) percent rule q r ≡ highestBy (ladder t) percent rule q r
+  unfolding highestOf highestBy
+  same-highest BuyLimit q r = refl
+  same-highest BuyEnhanced q r = ap (priceOr (top (ladder t))) (same-above (askOf q))
+  same-highest BuySpecial q r = refl
+  same-highest SellLimit q r = ap (priceOr (top (ladder t))) (same-high (sellReference q (r .«previous_close») (r .«day_high»)))
+  same-highest SellEnhanced q r = ap (priceOr (top (ladder t))) (same-high (sellReference q (r .«previous_close») (r .«day_high»)))
+  same-highest SellSpecial q r = refl
+
+  same-reading : (choice : Choice) (r : References) → readingOn (ladder t) percent choice r ≡ reading (ladder t) percent choice r
+  unfolding readingBy rangeOf
+  same-reading Unknown r = refl
+  same-reading (Chosen rule q) r = rw (same-lowest rule q r, same-highest rule q r)
+
+  same-answer : (d : Decoded) → answerDecoded (ladder t) percent d ≡ answer (ladder t) percent d
+  unfolding readingOf
+  same-answer (Asked q) = rw (same-reading (chosen (q .codes) (q .references)) (q .references))
+  same-answer WrongLength = refl
+
+  pub same-judged : (s : Bytes) → judged (ladder t) percent s ≡ judgedBy (ladder t) percent s
+  unfolding judged judgedBy
+  same-judged s = same-answer (decoded s)
+
+  pub same-trade : (p : ℕ) (r : TradeReferences) → tradeJudged (ladder t) percent p r ≡ tradeJudgedBy (ladder t) percent p r
+  unfolding tradeJudged tradeReading tradeJudgedBy
+  same-trade p r = rw (same-low (r .«previous_close»), same-high (r .«previous_close»))
