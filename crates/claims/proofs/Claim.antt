@@ -1,7 +1,6 @@
 -- The claim. A line is right by the definitions exactly where it is right by places, whatever line it is; by places the lines are computed.
 use mathlib.Core.Path.{_≡_, refl, _∙_}
-use Prim.Native.Nat.{ℕ}
-use mathlib.Core.Bool.{Bool, true, _&&_}
+use mathlib.Core.Bool.{Bool, true}
 use mathlib.Core.List.{List, [], _∷_}
 use lib.Dec.{T}
 use Rattle.ladder.specs.Bands.{phase1, wellFormed}
@@ -16,7 +15,7 @@ use Rattle.rules.specs.Rules.{chosen}
 use Rattle.judging.specs.Shown.{shownOf}
 use Rattle.judging.specs.Verdicts.{verdictOf}
 use Rattle.trades.specs.Trades.{tradeReferencesOf, anyTradeOff, tradeVerdict}
-use Rattle.claims.specs.Worked.{prices, littleEndian, mils, At, Line, order, bytes, low, high, trade, is, finds, every, right, lines, Worked}
+use Rattle.claims.specs.Worked.{prices, littleEndian, mils, Line, order, bytes, low, high, trade, is, finds, every, right, lines, Worked}
 use Rattle.claims.proofs.Limits.{lowBy, highBy, low-by, high-by}
 use Rattle.claims.proofs.Answers.{lowestBy, highestBy, judgedBy, tradeJudgedBy, same-judged, same-trade}
 
@@ -26,10 +25,7 @@ rightBy (order ask lowest highest tried) = every (λ a. is (judgedBy prices five
 rightBy (bytes s number lowest highest) = is (judgedBy prices fivePercent s) number lowest highest
 rightBy (low r q) = finds (lowBy prices (fivePercent .scale) (fivePercent .lower) r) q
 rightBy (high r q) = finds (highBy prices (fivePercent .scale) (fivePercent .upper) r) q
-rightBy (trade close lowestBid lowestAsk highestBid highestAsk lowest highest tried) =
-    every
-    (λ a. is (tradeJudgedBy prices fivePercent (a .price) (tradeReferencesOf close lowestBid lowestAsk highestBid highestAsk)) (a .number) lowest highest)
-    tried
+rightBy (trade r lowest highest tried) = every (λ a. is (tradeJudgedBy prices fivePercent (a .price) r) (a .number) lowest highest) tried
 
 -- two tests that are the same at each of a list
 same-every : {A : Type 0} (f g : A → Bool) → ((x : A) → f x ≡ g x) → (l : List A) → every f l ≡ every g l
@@ -46,10 +42,7 @@ same-right (order ask lowest highest tried) = same-every _ _ (λ a. rw (same-jud
 same-right (bytes s number lowest highest) = rw (same-judged phase1 formed fivePercent s)
 same-right (low r q) = rw (low-by phase1 formed (fivePercent .scale) (fivePercent .lower) r)
 same-right (high r q) = rw (high-by phase1 formed (fivePercent .scale) (fivePercent .upper) r)
-same-right (trade close lowestBid lowestAsk highestBid highestAsk lowest highest tried) =
-    same-every _ _
-    (λ a. rw (same-trade phase1 formed fivePercent (a .price) (tradeReferencesOf close lowestBid lowestAsk highestBid highestAsk)))
-    tried
+same-right (trade r lowest highest tried) = same-every _ _ (λ a. rw (same-trade phase1 formed fivePercent (a .price) r)) tried
 
 -- the lines by places, computed
 by-places : every rightBy lines ≡ true

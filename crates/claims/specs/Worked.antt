@@ -11,6 +11,7 @@ use Rattle.ladder.specs.Ladder.{Prices, ladder}
 use Rattle.limits.specs.Limits.{fivePercent, lowerLimit, upperLimit}
 use Rattle.judging.specs.declared.Answer.{Answer}
 use Rattle.judging.specs.Answers.{judged}
+use Rattle.trades.specs.declared.TradeReferences.{TradeReferences}
 use Rattle.trades.specs.Trades.{tradeReferencesOf, tradeJudged}
 
 -- the ladder of every line
@@ -90,7 +91,7 @@ pub data Line : Type 0 where
   bytes : List ℕ → ℕ → ℕ → ℕ → Line
   low : ℕ → ℕ → Line
   high : ℕ → ℕ → Line
-  trade : ℕ → ℕ → ℕ → ℕ → ℕ → ℕ → ℕ → List At → Line
+  trade : TradeReferences → ℕ → ℕ → List At → Line
 
 -- an answer is these three numbers
 abbrev pub is : Answer → ℕ → ℕ → ℕ → Bool
@@ -110,14 +111,11 @@ right (order ask lowest highest tried) = every (λ a. is (judged prices fivePerc
 right (bytes s number lowest highest) = is (judged prices fivePercent s) number lowest highest
 right (low r q) = finds (lowerLimit prices r) q
 right (high r q) = finds (upperLimit prices r) q
-right (trade close lowestBid lowestAsk highestBid highestAsk lowest highest tried) =
-    every
-    (λ a. is (tradeJudged prices fivePercent (a .price) (tradeReferencesOf close lowestBid lowestAsk highestBid highestAsk)) (a .number) lowest highest)
-    tried
+right (trade r lowest highest tried) = every (λ a. is (tradeJudged prices fivePercent (a .price) r) (a .number) lowest highest) tried
 
 -- ---- the lines
 
--- The lines. Each order is tried at its lowest and its highest, and at the next ladder prices outside.
+-- Each order is tried at its lowest and its highest, and at the next ladder prices outside.
 unfoldable pub lines : List Line
 lines =
     -- A: bid 19.89, ask 19.90, limit buy: 18.90 to 19.90
@@ -159,7 +157,7 @@ lines =
     -- L: sell only, ask 1.00, nominal 1.00, limit sell: 0.112 to 1.24; at 0.111 answer 10
     order (question sell limit sellOnly missing 1000 1000) 112 1240 (at 111 10 ∷ at 112 0 ∷ at 1240 0 ∷ at 1250 9 ∷ []) ∷
     -- M: trade: close 10, bids 9.60 to 10.30, asks 9.80 to 10.60: 9.50 to 10.60; 9.503 is accepted and 9.499 gets 8
-    trade 10000 9600 9800 10300 10600 9500 10600 (at 9499 8 ∷ at 9500 0 ∷ at 9503 0 ∷ at 10600 0 ∷ at 10610 9 ∷ []) ∷
+    trade (tradeReferencesOf 10000 9600 9800 10300 10600) 9500 10600 (at 9499 8 ∷ at 9500 0 ∷ at 9503 0 ∷ at 10600 0 ∷ at 10610 9 ∷ []) ∷
     []
 
 -- The claim, proved as worked in proofs/Claim.antt: every line is right.

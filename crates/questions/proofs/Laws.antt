@@ -31,7 +31,8 @@ reference-back : (r : Reference) → T (isWritable r) → referenceOf (number 0 
 reference-back Missing fits = refl
 reference-back (Price p) fits = go (ltb 0 p) (ltb p numberBound) refl refl fits
   where
-    go : (positive small : Bool) → ltb 0 p ≡ positive → ltb p numberBound ≡ small → T (positive && small) → referenceOf (number 0 (fourBytes p)) ≡ Price p
+    go : (positive small : Bool) → ltb 0 p ≡ positive → ltb p numberBound ≡ small → T (positive && small) →
+        referenceOf (number 0 (fourBytes p)) ≡ Price p
     go true true a b fits =
         let positive = ltb-true 0 p a in
         rw (number-back p (ltb-true p numberBound b), ne-eqb p 0 (λ e. omega arith))
