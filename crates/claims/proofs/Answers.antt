@@ -1,7 +1,7 @@
 -- The answers to orders and trades by places: the definitions of ranges, judging and trades once more, with limits and spreads as in Limits.
 -- Over any well-formed table and any percentage.
 use mathlib.Core.Path.{_≡_, refl, ap}
-use Prim.Native.Nat.{ℕ}
+use Prim.Native.Nat.{ℕ, zero, suc}
 use mathlib.Core.Bool.{cond}
 use lib.Dec.{T}
 use Rattle.ladder.specs.declared.Found.{Found}
@@ -23,6 +23,7 @@ use Rattle.questions.specs.Missing.{least, greatest, priceOr}
 use Rattle.questions.specs.Record.{Bytes, decoded}
 use Rattle.questions.specs.Checks.{anyOff, disagree, unopposed}
 use Rattle.rules.specs.Rules.{chosen, askOf, bidOf}
+use Rattle.ranges.specs.declared.Range.{Range}
 use Rattle.ranges.specs.declared.Refusal.the-variants.{UnknownCode, OffLadder, Disagreement, NoOpposite}
 use Rattle.ranges.specs.declared.Reading.{Reading}
 use Rattle.ranges.specs.declared.Reading.the-variants.{Permitted, Refused}
@@ -30,11 +31,34 @@ use Rattle.ranges.specs.Bounds.{asReference, Low, High, nineSpreadsAbove, nineS
 use Rattle.ranges.specs.Permitted.{buyReference, sellReference, lowestOf, highestOf, nineFoldReference, rangeOf}
 use Rattle.ranges.specs.Readings.{readingBy, readingOn, readingOf}
 use Rattle.judging.specs.declared.Answer.{Answer}
-use Rattle.judging.specs.Numbers.{wrongLength}
-use Rattle.judging.specs.Answers.{noneShown, answerBy, answerDecoded, judged}
+use Rattle.judging.specs.declared.Shown.{Shown}
+use Rattle.judging.specs.Shown.{shownOf}
+use Rattle.judging.specs.Verdicts.{verdictOf}
+use Rattle.judging.specs.Numbers.{wrongLength, refusalNumber, verdictNumber}
+use Rattle.judging.specs.Answers.{noneShown, answerWith, answerBy, answerDecoded, judged}
 use Rattle.trades.specs.declared.TradeReferences.{TradeReferences}
 use Rattle.trades.specs.Trades.{anyTradeOff, tradeDisagrees, tradeReading, tradeBy, tradeJudged}
 use Rattle.claims.proofs.Limits.{enhancedSpreads, upFrom, downFrom, lowBy, highBy, up-by, down-by, low-by, high-by}
+
+-- ---- numbers worked out first
+
+-- A number is told apart from 0, and so worked out, before it is used. The prover works out a call with the same numbers only once: the
+-- range that is shown is then looked for once a line, and not once for each price that the line tries.
+abbrev settled : {A : Type 0} → ℕ → (ℕ → A) → A
+settled zero goOn = goOn zero
+settled (suc n) goOn = goOn (suc n)
+
+abbrev settledReference : {A : Type 0} → Reference → (Reference → A) → A
+settledReference Missing goOn = goOn Missing
+settledReference (Price p) goOn = settled p (λ n. goOn (Price n))
+
+is-settled : {A : Type 0} (n : ℕ) (goOn : ℕ → A) → settled n goOn ≡ goOn n
+is-settled zero goOn = refl
+is-settled (suc n) goOn = refl
+
+is-settled-reference : {A : Type 0} (r : Reference) (goOn : Reference → A) → settledReference r goOn ≡ goOn r
+is-settled-reference Missing goOn = refl
+is-settled-reference (Price p) goOn = is-settled p (λ n. goOn (Price n))
 
 -- ---- the definitions
 
@@ -55,6 +79,7 @@ spreadsAbove l r = from (λ p. upFrom l enhancedSpreads (placeOf p l)) r
 abbrev spreadsBelow : Prices → Reference → Reference
 spreadsBelow l r = from (λ p. downFrom l enhancedSpreads (placeOf p l)) r
 
+-- the permitted lowest and highest
 unfoldable pub lowestBy : Prices → Percentage → Rule → Queues → References → ℕ
 lowestBy l percent BuyLimit q r = priceOr (bottom l) (lowLimit l percent (buyReference q (r .«previous_close») (r .«day_low»)))
 lowestBy l percent BuyEnhanced q r = priceOr (bottom l) (lowLimit l percent (buyReference q (r .«previous_close») (r .«day_low»)))
@@ -71,20 +96,34 @@ highestBy l percent SellLimit q r = priceOr (top l) (highLimit l percent (sellRe
 highestBy l percent SellEnhanced q r = priceOr (top l) (highLimit l percent (sellReference q (r .«previous_close») (r .«day_high»)))
 highestBy l percent SellSpecial q r = priceOr (top l) (bidOf q)
 
+-- a range of this lowest, highest and reference of the nine-fold rule
+abbrev range : ℕ → ℕ → Reference → Range
+range lowest highest nine = record { lowest = lowest; highest = highest; «nine_fold» = nine }
+
+-- the reading of codes and references
 abbrev reading : Prices → Percentage → Choice → References → Reading
 reading l percent Unknown r = Refused UnknownCode
 reading l percent (Chosen rule q) r =
     cond (anyOff l r) (Refused OffLadder)
     (cond (disagree q r) (Refused Disagreement)
     (cond (unopposed rule q) (Refused NoOpposite)
-    (Permitted (record {
-      lowest = lowestBy l percent rule q r;
-      highest = highestBy l percent rule q r;
-      «nine_fold» = nineFoldReference q (r .«previous_close») (r .nominal);
-    }))))
+    (Permitted (range (lowestBy l percent rule q r) (highestBy l percent rule q r) (nineFoldReference q (r .«previous_close») (r .nominal))))))
 
+-- the answer by a reading: its range worked out, then the number and what is shown
+unfoldable pub shownBy : Prices → ℕ → ℕ → Reference → Shown
+shownBy l lowest highest nine = shownOf l (range lowest highest nine)
+
+abbrev answerAt : Prices → ℕ → ℕ → ℕ → Reference → Answer
+answerAt l p lowest highest nine = answerWith (verdictNumber (verdictOf l (range lowest highest nine) p)) (shownBy l lowest highest nine)
+
+abbrev answerFor : Prices → Reading → ℕ → Answer
+answerFor l (Permitted x) p =
+    settled (x .lowest) (λ a. settled (x .highest) (λ b. settledReference (x .«nine_fold») (λ nine. answerAt l p a b nine)))
+answerFor l (Refused refusal) p = noneShown (refusalNumber refusal)
+
+-- the answers to a question and to a trade
 abbrev answer : Prices → Percentage → Decoded → Answer
-answer l percent (Asked q) = answerBy l (reading l percent (chosen (q .codes) (q .references)) (q .references)) (q .price)
+answer l percent (Asked q) = answerFor l (reading l percent (chosen (q .codes) (q .references)) (q .references)) (q .price)
 answer l percent WrongLength = noneShown wrongLength
 
 unfoldable pub judgedBy : Prices → Percentage → Bytes → Answer
@@ -95,14 +134,19 @@ tradeJudgedBy l percent p r =
     tradeBy l
     (cond (anyTradeOff l r) (Refused OffLadder)
     (cond (tradeDisagrees r) (Refused Disagreement)
-    (Permitted (record {
-      lowest = priceOr (bottom l) (least (lowLimit l percent (r .«previous_close»)) (least (r .«lowest_bid») (r .«lowest_ask»)));
-      highest = priceOr (top l) (greatest (highLimit l percent (r .«previous_close»)) (greatest (r .«highest_bid») (r .«highest_ask»)));
-      «nine_fold» = Missing;
-    }))))
+    (Permitted
+    (range
+    (priceOr (bottom l) (least (lowLimit l percent (r .«previous_close»)) (least (r .«lowest_bid») (r .«lowest_ask»))))
+    (priceOr (top l) (greatest (highLimit l percent (r .«previous_close»)) (greatest (r .«highest_bid») (r .«highest_ask»))))
+    Missing))))
     p
 
 -- ---- they are the same
+
+same-for : (l : Prices) (x : Reading) (p : ℕ) → answerBy l x p ≡ answerFor l x p
+unfolding shownBy
+same-for l (Permitted x) p = rw (is-settled, is-settled, is-settled-reference)
+same-for l (Refused refusal) p = refl
 
 module _ (t : Table) (formed : T (wellFormed t)) (percent : Percentage) where
   same-low : (r : Reference) → Low (ladder t) percent r ≡ lowLimit (ladder t) percent r
@@ -146,7 +190,9 @@ module _ (t : Table) (formed : T (wellFormed t)) (percent : Percentage) where
 
   same-answer : (d : Decoded) → answerDecoded (ladder t) percent d ≡ answer (ladder t) percent d
   unfolding readingOf
-  same-answer (Asked q) = rw (same-reading (chosen (q .codes) (q .references)) (q .references))
+  same-answer (Asked q) =
+      let choice = chosen (q .codes) (q .references) in
+      rw (same-reading choice (q .references)) (same-for (ladder t) (reading (ladder t) percent choice (q .references)) (q .price))
   same-answer WrongLength = refl
 
   pub same-judged : (s : Bytes) → judged (ladder t) percent s ≡ judgedBy (ladder t) percent s

@@ -17,7 +17,7 @@ use Rattle.judging.specs.Verdicts.{verdictOf}
 use Rattle.trades.specs.Trades.{tradeReferencesOf, anyTradeOff, tradeVerdict}
 use Rattle.claims.specs.Worked.{prices, littleEndian, mils, Line, order, bytes, low, high, trade, is, finds, every, right, lines, Worked}
 use Rattle.claims.proofs.Limits.{lowBy, highBy, low-by, high-by}
-use Rattle.claims.proofs.Answers.{lowestBy, highestBy, judgedBy, tradeJudgedBy, same-judged, same-trade}
+use Rattle.claims.proofs.Answers.{shownBy, lowestBy, highestBy, judgedBy, tradeJudgedBy, same-judged, same-trade}
 
 -- a line is right by places
 unfoldable rightBy : Line → Bool
@@ -47,8 +47,8 @@ same-right (trade r lowest highest tried) = same-every _ _ (λ a. rw (same-trade
 -- the lines by places, computed
 by-places : every rightBy lines ≡ true
 unfolding
-    every rightBy lines judgedBy tradeJudgedBy lowestBy highestBy littleEndian mils codesOf referencesOf chosen anyOff disagree shownOf verdictOf
-    tradeReferencesOf anyTradeOff tradeVerdict phase1 ladder bandPrices rungs holds first latestAfter priceAt placeFrom lastAfter
+    every lines rightBy judgedBy tradeJudgedBy lowestBy highestBy shownBy littleEndian mils codesOf referencesOf chosen anyOff disagree
+    shownOf verdictOf tradeReferencesOf anyTradeOff tradeVerdict phase1 ladder bandPrices rungs holds first latestAfter priceAt placeFrom lastAfter
 by-places = refl
 
 pub worked : Worked
