@@ -9,36 +9,38 @@ use Rattle.ladder.specs.Bands.{Table, wellFormed}
 use Rattle.ladder.specs.Ladder.{Prices, ladder}
 use Rattle.ladder.specs.Places.{placeOf}
 use Rattle.limits.specs.declared.Percentage.{Percentage}
+use Rattle.limits.specs.Limits.{lowerLimitFound, upperLimitFound}
 use Rattle.questions.specs.declared.Reference.{Reference}
 use Rattle.questions.specs.declared.Reference.the-variants.{Missing, Price}
 use Rattle.questions.specs.declared.References.{References}
-use Rattle.questions.specs.declared.Queues.{Queues}
-use Rattle.questions.specs.declared.Rule.{Rule}
-use Rattle.questions.specs.declared.Rule.the-variants.{BuyLimit, BuyEnhanced, BuySpecial, SellLimit, SellEnhanced, SellSpecial}
-use Rattle.questions.specs.declared.Choice.{Choice}
-use Rattle.questions.specs.declared.Choice.the-variants.{Chosen, Unknown}
+use Rattle.rules.specs.declared.Queues.{Queues}
+use Rattle.rules.specs.declared.Rule.{Rule}
+use Rattle.rules.specs.declared.Rule.the-variants.{BuyLimit, BuyEnhanced, BuySpecial, SellLimit, SellEnhanced, SellSpecial}
+use Rattle.rules.specs.declared.Choice.{Choice}
+use Rattle.rules.specs.declared.Choice.the-variants.{Chosen, Unknown}
 use Rattle.questions.specs.declared.Decoded.{Decoded}
 use Rattle.questions.specs.declared.Decoded.the-variants.{Asked, WrongLength}
 use Rattle.questions.specs.Missing.{least, greatest, priceOr}
 use Rattle.questions.specs.Record.{Bytes, decoded}
-use Rattle.questions.specs.Checks.{anyOff, disagree, unopposed}
+use Rattle.questions.specs.Checks.{anyOff}
+use Rattle.rules.specs.Checks.{disagree, unopposed}
 use Rattle.rules.specs.Rules.{chosen, askOf, bidOf}
 use Rattle.ranges.specs.declared.Range.{Range}
-use Rattle.ranges.specs.declared.Refusal.the-variants.{UnknownCode, OffLadder, Disagreement, NoOpposite}
+use Rattle.ranges.specs.declared.Refusal.the-variants.{UnknownCode, OffLadder, Disagreement}
 use Rattle.ranges.specs.declared.Reading.{Reading}
 use Rattle.ranges.specs.declared.Reading.the-variants.{Permitted, Refused}
-use Rattle.ranges.specs.Bounds.{asReference, Low, High, nineSpreadsAbove, nineSpreadsBelow, bottom, top}
+use Rattle.ranges.specs.Bounds.{asReference, fromReference, enhancedSpreads, enhancedAbove, enhancedBelow, bottom, top}
 use Rattle.ranges.specs.Permitted.{buyReference, sellReference, lowestOf, highestOf, nineFoldReference, rangeOf}
-use Rattle.ranges.specs.Readings.{readingBy, readingOn, readingOf}
+use Rattle.ranges.specs.Readings.{inOrder, readingBy, readingOn, readingOf}
 use Rattle.judging.specs.declared.Answer.{Answer}
 use Rattle.judging.specs.declared.Shown.{Shown}
 use Rattle.judging.specs.Shown.{shownOf}
 use Rattle.judging.specs.Verdicts.{verdictOf}
-use Rattle.judging.specs.Numbers.{wrongLength, refusalNumber, verdictNumber}
-use Rattle.judging.specs.Answers.{noneShown, answerWith, answerBy, answerDecoded, judged}
+use Rattle.judging.specs.Numbers.{wrongLength, verdictNumber}
+use Rattle.judging.specs.Answers.{noneShown, refusedAnswer, answerWith, answerBy, answerDecoded, judged}
 use Rattle.trades.specs.declared.TradeReferences.{TradeReferences}
 use Rattle.trades.specs.Trades.{anyTradeOff, tradeDisagrees, tradeReading, tradeBy, tradeJudged}
-use Rattle.claims.proofs.Limits.{enhancedSpreads, upFrom, downFrom, lowBy, highBy, up-by, down-by, low-by, high-by}
+use Rattle.claims.proofs.Limits.{upFrom, downFrom, lowBy, highBy, up-by, down-by, low-by, high-by}
 
 -- ---- numbers worked out first
 
@@ -62,22 +64,17 @@ is-settled-reference (Price p) goOn = is-settled p (λ n. goOn (Price n))
 
 -- ---- the definitions
 
--- what is found from a reference
-abbrev from : (ℕ → Found) → Reference → Reference
-from find Missing = Missing
-from find (Price r) = asReference (find r)
-
 abbrev lowLimit : Prices → Percentage → Reference → Reference
-lowLimit l percent r = from (lowBy l (percent .scale) (percent .lower)) r
+lowLimit l percent r = fromReference (lowBy l percent) r
 
 abbrev highLimit : Prices → Percentage → Reference → Reference
-highLimit l percent r = from (highBy l (percent .scale) (percent .upper)) r
+highLimit l percent r = fromReference (highBy l percent) r
 
 abbrev spreadsAbove : Prices → Reference → Reference
-spreadsAbove l r = from (λ p. upFrom l enhancedSpreads (placeOf p l)) r
+spreadsAbove l r = fromReference (λ (p : ℕ). upFrom l enhancedSpreads (placeOf p l)) r
 
 abbrev spreadsBelow : Prices → Reference → Reference
-spreadsBelow l r = from (λ p. downFrom l enhancedSpreads (placeOf p l)) r
+spreadsBelow l r = fromReference (λ (p : ℕ). downFrom l enhancedSpreads (placeOf p l)) r
 
 -- the permitted lowest and highest
 unfoldable pub lowestBy : Prices → Percentage → Rule → Queues → References → ℕ
@@ -104,10 +101,8 @@ range lowest highest nine = record { lowest = lowest; highest = highest; «nine_
 abbrev reading : Prices → Percentage → Choice → References → Reading
 reading l percent Unknown r = Refused UnknownCode
 reading l percent (Chosen rule q) r =
-    cond (anyOff l r) (Refused OffLadder)
-    (cond (disagree q r) (Refused Disagreement)
-    (cond (unopposed rule q) (Refused NoOpposite)
-    (Permitted (range (lowestBy l percent rule q r) (highestBy l percent rule q r) (nineFoldReference q (r .«previous_close») (r .nominal))))))
+    inOrder (anyOff l r) (disagree q r) (unopposed rule q)
+    (Permitted (range (lowestBy l percent rule q r) (highestBy l percent rule q r) (nineFoldReference q (r .«previous_close») (r .nominal))))
 
 -- the answer by a reading: its range worked out, then the number and what is shown
 unfoldable pub shownBy : Prices → ℕ → ℕ → Reference → Shown
@@ -119,7 +114,7 @@ answerAt l p lowest highest nine = answerWith (verdictNumber (verdictOf l (range
 abbrev answerFor : Prices → Reading → ℕ → Answer
 answerFor l (Permitted x) p =
     settled (x .lowest) (λ a. settled (x .highest) (λ b. settledReference (x .«nine_fold») (λ nine. answerAt l p a b nine)))
-answerFor l (Refused refusal) p = noneShown (refusalNumber refusal)
+answerFor l (Refused refusal) p = refusedAnswer refusal
 
 -- the answers to a question and to a trade
 abbrev answer : Prices → Percentage → Decoded → Answer
@@ -149,21 +144,22 @@ same-for l (Permitted x) p = rw (is-settled, is-settled, is-settled-reference)
 same-for l (Refused refusal) p = refl
 
 module _ (t : Table) (formed : T (wellFormed t)) (percent : Percentage) where
-  same-low : (r : Reference) → Low (ladder t) percent r ≡ lowLimit (ladder t) percent r
-  same-low Missing = refl
-  same-low (Price r) = ap asReference (low-by t formed (percent .scale) (percent .lower) r)
+  -- what is found from a reference is the same, where it is from each price
+  same-from : (f g : ℕ → Found) → ((p : ℕ) → f p ≡ g p) → (r : Reference) → fromReference f r ≡ fromReference g r
+  same-from f g same Missing = refl
+  same-from f g same (Price p) = ap asReference (same p)
 
-  same-high : (r : Reference) → High (ladder t) percent r ≡ highLimit (ladder t) percent r
-  same-high Missing = refl
-  same-high (Price r) = ap asReference (high-by t formed (percent .scale) (percent .upper) r)
+  same-low : (r : Reference) → fromReference (lowerLimitFound (ladder t) percent) r ≡ lowLimit (ladder t) percent r
+  same-low = same-from _ _ (low-by t formed percent)
 
-  same-above : (r : Reference) → nineSpreadsAbove (ladder t) r ≡ spreadsAbove (ladder t) r
-  same-above Missing = refl
-  same-above (Price r) = ap asReference (up-by t formed r enhancedSpreads)
+  same-high : (r : Reference) → fromReference (upperLimitFound (ladder t) percent) r ≡ highLimit (ladder t) percent r
+  same-high = same-from _ _ (high-by t formed percent)
 
-  same-below : (r : Reference) → nineSpreadsBelow (ladder t) r ≡ spreadsBelow (ladder t) r
-  same-below Missing = refl
-  same-below (Price r) = ap asReference (down-by t formed r enhancedSpreads)
+  same-above : (r : Reference) → enhancedAbove (ladder t) r ≡ spreadsAbove (ladder t) r
+  same-above = same-from _ _ (λ p. up-by t formed p enhancedSpreads)
+
+  same-below : (r : Reference) → enhancedBelow (ladder t) r ≡ spreadsBelow (ladder t) r
+  same-below = same-from _ _ (λ p. down-by t formed p enhancedSpreads)
 
   same-lowest : (rule : Rule) (q : Queues) (r : References) → lowestOf (ladder t) percent rule q r ≡ lowestBy (ladder t) percent rule q r
   unfolding lowestOf lowestBy

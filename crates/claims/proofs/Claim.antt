@@ -5,12 +5,14 @@ use mathlib.Core.List.{List, [], _∷_}
 use lib.Dec.{T}
 use Rattle.ladder.specs.Bands.{phase1, wellFormed}
 use Rattle.ladder.specs.Ladder.{rungs, bandPrices, ladder}
-use Rattle.ladder.specs.Search.{holds, first, latestAfter}
+use Rattle.facts.specs.Lists.{holds}
+use Rattle.ladder.specs.Search.{first, latestAfter}
 use Rattle.ladder.specs.Places.{priceAt, placeFrom, lastAfter}
-use Rattle.ladder.proofs.Laws.{the-phase1-table}
+use Rattle.ladder.proofs.Laws.{ladder-laws}
 use Rattle.limits.specs.Limits.{fivePercent}
 use Rattle.questions.specs.Record.{codesOf, referencesOf}
-use Rattle.questions.specs.Checks.{anyOff, disagree}
+use Rattle.questions.specs.Checks.{anyOff}
+use Rattle.rules.specs.Checks.{disagree}
 use Rattle.rules.specs.Rules.{chosen}
 use Rattle.judging.specs.Shown.{shownOf}
 use Rattle.judging.specs.Verdicts.{verdictOf}
@@ -23,8 +25,8 @@ use Rattle.claims.proofs.Answers.{shownBy, lowestBy, highestBy, judgedB
 unfoldable rightBy : Line → Bool
 rightBy (order ask lowest highest tried) = every (λ a. is (judgedBy prices fivePercent (ask (a .price))) (a .number) lowest highest) tried
 rightBy (bytes s number lowest highest) = is (judgedBy prices fivePercent s) number lowest highest
-rightBy (low r q) = finds (lowBy prices (fivePercent .scale) (fivePercent .lower) r) q
-rightBy (high r q) = finds (highBy prices (fivePercent .scale) (fivePercent .upper) r) q
+rightBy (low r q) = finds (lowBy prices fivePercent r) q
+rightBy (high r q) = finds (highBy prices fivePercent r) q
 rightBy (trade r lowest highest tried) = every (λ a. is (tradeJudgedBy prices fivePercent (a .price) r) (a .number) lowest highest) tried
 
 -- two tests that are the same at each of a list
@@ -34,14 +36,14 @@ same-every f g same [] = refl
 same-every f g same (x ∷ rest) = rw (same x, same-every f g same rest)
 
 formed : T (wellFormed phase1)
-formed = the-phase1-table .well-formed
+formed = ladder-laws .the-phase1-table .well-formed
 
 same-right : (line : Line) → right line ≡ rightBy line
 unfolding right rightBy
 same-right (order ask lowest highest tried) = same-every _ _ (λ a. rw (same-judged phase1 formed fivePercent (ask (a .price)))) tried
 same-right (bytes s number lowest highest) = rw (same-judged phase1 formed fivePercent s)
-same-right (low r q) = rw (low-by phase1 formed (fivePercent .scale) (fivePercent .lower) r)
-same-right (high r q) = rw (high-by phase1 formed (fivePercent .scale) (fivePercent .upper) r)
+same-right (low r q) = rw (low-by phase1 formed fivePercent r)
+same-right (high r q) = rw (high-by phase1 formed fivePercent r)
 same-right (trade r lowest highest tried) = same-every _ _ (λ a. rw (same-trade phase1 formed fivePercent (a .price) r)) tried
 
 -- the lines by places, computed

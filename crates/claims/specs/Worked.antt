@@ -8,7 +8,7 @@ use Rattle.ladder.specs.declared.Found.{Found}
 use Rattle.ladder.specs.declared.Found.the-variants as found
 use Rattle.ladder.specs.Bands.{phase1}
 use Rattle.ladder.specs.Ladder.{Prices, ladder}
-use Rattle.limits.specs.Limits.{fivePercent, lowerLimit, upperLimit}
+use Rattle.limits.specs.Limits.{fivePercent, lowerLimitFound, upperLimitFound}
 use Rattle.judging.specs.declared.Answer.{Answer}
 use Rattle.judging.specs.Answers.{judged}
 use Rattle.trades.specs.declared.TradeReferences.{TradeReferences}
@@ -109,8 +109,8 @@ every test (x ∷ rest) = test x && every test rest
 unfoldable pub right : Line → Bool
 right (order ask lowest highest tried) = every (λ a. is (judged prices fivePercent (ask (a .price))) (a .number) lowest highest) tried
 right (bytes s number lowest highest) = is (judged prices fivePercent s) number lowest highest
-right (low r q) = finds (lowerLimit prices r) q
-right (high r q) = finds (upperLimit prices r) q
+right (low r q) = finds (lowerLimitFound prices fivePercent r) q
+right (high r q) = finds (upperLimitFound prices fivePercent r) q
 right (trade r lowest highest tried) = every (λ a. is (tradeJudged prices fivePercent (a .price) r) (a .number) lowest highest) tried
 
 -- ---- the lines

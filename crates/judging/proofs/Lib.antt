@@ -1,4 +1,4 @@
--- Laws: the laws that a reader looks for. Cuts and Windows: how cut bounds give the shown range. Acceptance: what the verdict accepts.
+-- Laws: what other crates see. Cuts and Windows: how cut bounds give the shown range. Acceptance: what the verdict accepts.
 -- Fields: questions that agree but for the order price.
 pub mod Laws
 mod Cuts

@@ -1,4 +1,4 @@
--- The laws of specs/Laws.antt, proved.
+-- The laws of specs/Laws.antt, proved. Other crates see them as fields of question-laws.
 use mathlib.Core.Path.{_≡_, refl}
 use Prim.Native.Nat.{ℕ, _+_, _*_, _/_, _%_, _<_}
 use native.Mathlib.Nat.{mod-eq-of-lt, div-add-mod', div-div-eq-div-mul}
@@ -39,7 +39,7 @@ reference-back (Price p) fits = go (ltb 0 p) (ltb p numberBound) refl refl fits
     go true false a b fits = absurd fits
     go false small a b fits = absurd fits
 
-pub bytes-decode : BytesDecode
+bytes-decode : BytesDecode
 unfolding codesOf referencesOf bytesOf
 bytes-decode q fits =
     rw (
@@ -57,7 +57,7 @@ bytes-decode q fits =
 byte-fits : (x : ℕ) → ltb (x % 256) byteBound ≡ true
 byte-fits x = lt-ltb (x % 256) byteBound (omega arith)
 
-pub bytes-fit : BytesFit
+bytes-fit : BytesFit
 unfolding areBytes bytesOf
 bytes-fit q fits =
     simp (

@@ -1,2 +1,2 @@
--- Laws: the laws that a reader looks for.
+-- Laws: what other crates see.
 pub mod Laws

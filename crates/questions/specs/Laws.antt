@@ -1,4 +1,5 @@
--- The laws of a question's bytes. Each is proved in proofs/Laws.antt: BytesDecode as bytes-decode, and so on.
+-- The laws of a question's bytes. Each is a field of the record QuestionLaws at the end, which proofs/Laws.antt proves as question-laws:
+-- BytesDecode is the field bytes-decode.
 use mathlib.Core.Path.{_≡_}
 use Prim.Native.Nat.{ℕ, _<_}
 use mathlib.Core.Bool.{Bool, true, _&&_}
@@ -50,7 +51,8 @@ areBytes (b ∷ rest) = ltb b byteBound && areBytes rest
 abbrev pub BytesFit : Type 0
 BytesFit = (q : Question) → Fits q → areBytes (bytesOf q) ≡ true
 
--- All of them.
+-- ---- all of them
+
 pub record QuestionLaws : Type 0 where
   pub bytes-decode : BytesDecode
   pub bytes-fit : BytesFit

@@ -1,3 +1,3 @@
--- Laws: the laws that a reader looks for. Pairs: what pairs of references make of a range.
+-- Laws: what other crates see. Pairs: what pairs of references make of a range.
 pub mod Laws
 mod Pairs
