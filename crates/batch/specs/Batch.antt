@@ -1,4 +1,4 @@
--- A batch of questions, and the buffer of its answers.
+-- A batch of questions, and the buffer of its answers. Document 01, "Question and answer".
 use Prim.Native.Nat.{ℕ, zero, suc, _*_, _%_}
 use mathlib.Core.Bool.{Bool, not, _||_, cond}
 use mathlib.Core.List.{[], _++_}

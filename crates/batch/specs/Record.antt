@@ -1,4 +1,4 @@
--- An answer as 12 bytes.
+-- An answer as 12 bytes. Document 01, "Question and answer".
 use Prim.Native.Nat.{ℕ, _+_}
 use mathlib.Core.List.{_++_}
 use Rattle.questions.specs.Record.{Bytes, number, fourBytes}

@@ -1,4 +1,4 @@
--- The answer to a question: number, lowest and highest.
+-- The answer to a question: number, lowest and highest. Document 01, "Question and answer" and "Why a question comes back".
 use Prim.Native.Nat.{ℕ}
 use Rattle.ladder.specs.Ladder.{Prices}
 use Rattle.limits.specs.declared.Percentage.{Percentage}

@@ -1,4 +1,4 @@
--- The numbers of document 01, case by case.
+-- The numbers of document 01, "Why a question comes back", case by case.
 use Prim.Native.Nat.{ℕ}
 use Rattle.ranges.specs.declared.Refusal.{Refusal}
 use Rattle.ranges.specs.declared.Refusal.the-variants.{UnknownCode, OffLadder, Disagreement, NoOpposite}

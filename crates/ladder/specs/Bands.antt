@@ -1,4 +1,5 @@
--- Band tables: what makes one well formed, and the Phase 1 table. Every price is a whole number of mils (a mil is 0.001 of the currency unit).
+-- Band tables: what makes one well formed, and the Phase 1 table. Document 01, "The ladder". Every price is a whole number of mils (a mil is
+-- 0.001 of the currency unit).
 use Prim.Native.Nat.{ℕ, _-_, _%_}
 use mathlib.Core.Bool.{Bool, true, false, _&&_}
 use mathlib.Core.List.{List, [], _∷_}

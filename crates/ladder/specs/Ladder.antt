@@ -1,4 +1,4 @@
--- The ladder of a table: the rising list of all its prices; and a ladder price in document 01's own words.
+-- The ladder of a table: the rising list of all its prices; and a ladder price in the words of document 01, "The ladder".
 use Prim.Native.Nat.{ℕ, zero, suc, _+_, _-_, _/_, _%_}
 use mathlib.Core.Bool.{Bool, false, _&&_, _||_}
 use mathlib.Core.List.{List, [], _∷_, _++_}

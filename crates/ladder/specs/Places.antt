@@ -1,4 +1,4 @@
--- Places: the first price of a ladder has place 0, the next 1, and so on; and the ends of a ladder.
+-- Places: the first price of a ladder has place 0, the next 1, and so on; and the ends of a ladder. Document 01, "The ladder".
 use Prim.Native.Nat.{ℕ, zero, suc}
 use mathlib.Core.Bool.{cond}
 use mathlib.Core.List.{List, [], _∷_}

@@ -1,4 +1,4 @@
--- Going through every price of a ladder, from the first to the last.
+-- Going through every price of a ladder, from the first to the last: the plain count of document 01, "The two limits of a reference R".
 use Prim.Native.Nat.{ℕ, _*_}
 use mathlib.Core.Bool.{Bool, cond}
 use mathlib.Core.List.{List, [], _∷_}

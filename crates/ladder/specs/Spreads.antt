@@ -1,4 +1,5 @@
--- Spreads by the plain count: single ones, and n of them one after another.
+-- Spreads by the plain count: single ones, and n of them one after another. Document 01, "The ladder" and "The two limits of a reference R".
+-- House reading: steps halt at either end.
 use Prim.Native.Nat.{ℕ, zero, suc}
 use mathlib.Core.Bool.{cond}
 use mathlib.Core.List.{List}

@@ -1,4 +1,4 @@
--- The lines of pricecheck.
+-- The lines of pricecheck. Document 01, "Prices worked out".
 use Prim.Native.Nat.{ℕ, zero, suc, _+_, _%_}
 use mathlib.Core.List.{[], _∷_, _++_}
 use lib.ListN.{length}

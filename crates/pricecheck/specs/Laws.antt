@@ -1,4 +1,5 @@
--- The laws of pricecheck. Each is proved in proofs/Laws.antt: PiecesJoin as pieces-join, and so on.
+-- The laws of pricecheck. Each is a field of the record PricecheckLaws at the end, which proofs/Laws.antt proves as pricecheck-laws: PiecesJoin
+-- is the field pieces-join.
 use mathlib.Core.Path.{_≡_}
 use Prim.Native.Nat.{ℕ, suc, _≤_, _<_}
 use mathlib.Core.Bool.{Bool, true, false, _&&_}
@@ -49,7 +50,8 @@ RunIsPrinted =
 abbrev pub PiecesFit : Type 0
 PiecesFit = (k bytes : ℕ) → k < 4294967296 → bytes ≤ pieceBytes → pageRefused (firstOf k) bytes textBytes ≡ false
 
--- All of them.
+-- ---- all of them
+
 pub record PricecheckLaws : Type 0 where
   pub pieces-join : PiecesJoin
   pub run-is-printed : RunIsPrinted

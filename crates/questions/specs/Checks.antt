@@ -1,4 +1,5 @@
--- Check 3, by the reference feed; and pairs of a low and a high, which check 4 looks at (rules/specs/Checks.antt).
+-- Check 3, by the reference feed; and pairs of a low and a high, which check 4 looks at (rules/specs/Checks.antt). Document 01, "Why a question
+-- comes back".
 use mathlib.Core.Bool.{Bool, true, false, not, cond, _||_}
 use Rattle.ladder.specs.Ladder.{Prices}
 use Rattle.facts.specs.Lists.{holds}

@@ -1,4 +1,4 @@
--- References: "each reference is a price or is missing, and 0 means missing".
+-- References: "each reference is a price or is missing, and 0 means missing". Document 01, "Question and answer".
 use Prim.Native.Nat.{ℕ, min, max}
 use mathlib.Core.Bool.{Bool, true, false, cond}
 use lib.Dec.{eqb, ltb}

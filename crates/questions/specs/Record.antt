@@ -1,4 +1,4 @@
--- A question from its 40 bytes, and its bytes.
+-- A question from its 40 bytes, and its bytes. Document 01, "Question and answer".
 use Prim.Native.Nat.{ℕ, _+_, _*_, _/_, _%_}
 use mathlib.Core.Bool.{cond}
 use mathlib.Core.List.{List, [], _∷_, _++_}

@@ -1,4 +1,5 @@
--- The permitted range: "The side, order type and queue code together choose the range."
+-- The permitted range: "The side, order type and queue code together choose the range." Document 01, "Permitted range".
+-- House reading: at the opening with no previous close, bottom and top.
 use Prim.Native.Nat.{ℕ}
 use mathlib.Core.Bool.{not, cond, _&&_}
 use Rattle.ladder.specs.Ladder.{Prices}

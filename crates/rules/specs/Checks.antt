@@ -1,4 +1,5 @@
--- Checks 4 and 5: references that disagree with the queues or with each other, and special orders with no opposite queue.
+-- Checks 4 and 5: references that disagree with the queues or with each other, and special orders with no opposite queue. Document 01, "Why a
+-- question comes back".
 use mathlib.Core.Bool.{Bool, true, false, not, _||_}
 use Rattle.questions.specs.declared.Reference.{Reference}
 use Rattle.questions.specs.declared.References.{References}

@@ -1,5 +1,6 @@
 -- Off-System trades: "Six numbers of 4 bytes, in mils, handed over as numbers and not as a record: trade price, previous close, lowest
--- bid, lowest ask, highest bid, highest ask of the day so far." Over any ladder l, the list of its prices, and any percentage.
+-- bid, lowest ask, highest bid, highest ask of the day so far." Over any ladder l, the list of its prices, and any percentage. House reading: a trade
+-- price need not be on the ladder.
 use Prim.Native.Nat.{ℕ}
 use mathlib.Core.Bool.{Bool, cond, _||_}
 use Rattle.ladder.specs.Ladder.{Prices}
