@@ -1,5 +1,5 @@
 -- The band of a ladder price: the band where it lands, which it exceeds by a multiple of its spread.
-use mathlib.Core.Path.{_≡_, refl, sym, ap}
+use mathlib.Core.Path.{_≡_, refl, sym, ap, _∙_}
 use Prim.Native.Nat.{ℕ, suc, _+_, _-_, _*_, _/_, _%_, _≤_, _<_}
 use native.Mathlib.Nat.{div-add-mod', mod-lt, eq-zero-or-pos, lt-of-mul-lt-mul-right}
 use native.Mathlib.Omega.{arith}
@@ -122,9 +122,16 @@ module _ (t : List Band) (wf : T (wellFormed t)) (p : ℕ) where
   pub standing-off : standingOf p t ≡ OffLadder → T (holds p (ladder t)) → ⊥
   standing-off e = standing-cases OffLadder e (λ on i. let z : _≡_ {A = ℕ} 0 1 = cc in absurd (zero-is-one z)) (λ off i. off)
 
-  -- an answer for a price on the ladder, and none off it
-  pub answers : (k : ℕ) → standingOf p t ≡ In k → (answer : ℕ) → Price answer ≡ ifHeld p (ladder t) answer
-  answers k e answer = rw (passed (holds p (ladder t)) (standing-held k e))
+-- what the answer of the search tells a walk from p: where it stands, and that a step is answered; or that it is not
+pub record Stood (t : List Band) (p : ℕ) (standing : Standing) : Type 0 where
+  pub stands-in : (k : ℕ) → standing ≡ In k → StandsIn t k p
+  pub answers : (k : ℕ) → standing ≡ In k → (answer : ℕ) → Price answer ≡ ifHeld p (ladder t) answer
+  pub no-answer : standing ≡ OffLadder → (answer : ℕ) → Nothing ≡ ifHeld p (ladder t) answer
 
-  pub no-answer : standingOf p t ≡ OffLadder → (answer : ℕ) → Nothing ≡ ifHeld p (ladder t) answer
-  no-answer e answer = rw (failed (holds p (ladder t)) (standing-off e))
+pub stood : (t : List Band) → T (wellFormed t) → (p : ℕ) (standing : Standing) → standing ≡ standingOf p t → Stood t p standing
+stood t wf p standing is =
+    record {
+      stands-in = λ k e. standing-stands t wf p k (sym is ∙ e);
+      answers = λ k e answer. rw (passed (holds p (ladder t)) (standing-held t wf p k (sym is ∙ e)));
+      no-answer = λ e answer. rw (failed (holds p (ladder t)) (standing-off t wf p (sym is ∙ e)));
+    }
