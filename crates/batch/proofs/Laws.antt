@@ -17,6 +17,8 @@ use Rattle.facts.proofs.Tests.{passed, and-right, or-cases}
 use Rattle.ladder.proofs.Laws.{ladder-laws}
 use Rattle.limits.specs.declared.Percentage.{Percentage}
 use Rattle.questions.specs.Record.{questionBytes, number, countOf, questionAt}
+use Rattle.questions.specs.Laws.{numberBound}
+use Rattle.questions.proofs.Laws.{question-laws}
 use Rattle.judging.specs.declared.Answer.{Answer}
 use Rattle.judging.specs.Answers.{judged}
 use Rattle.judging.specs.Laws.{notRefused, isQuestionNumber}
@@ -66,17 +68,12 @@ answer-alone l percent s a h k m = rw (buffer-is l percent s a h) (part-of l per
 
 -- ---- the numbers of an answer
 
--- a number of 4 bytes is read back
-four-bytes : (x : ℕ) → x < 4294967296 → x % 256 + x / 256 % 256 * 256 + x / 65536 % 256 * 65536 + x / 16777216 % 256 * 16777216 ≡ x
-four-bytes x h =
-    let b : x / 65536 ≡ x / 256 / 256 = omega arith in
-    let c : x / 16777216 ≡ x / 65536 / 256 = omega arith in
-    let d : x / 16777216 % 256 ≡ x / 16777216 = omega arith in
-    omega arith
-
-reads-back : (a : Answer) → a .number < 4294967296 → a .lowest < 4294967296 → a .highest < 4294967296 → answerAt 0 (encoded a) ≡ a
+-- the three numbers of an answer are read back
+reads-back : (a : Answer) → a .number < numberBound → a .lowest < numberBound → a .highest < numberBound → answerAt 0 (encoded a) ≡ a
 unfolding encoded
-reads-back a n low high = rw (four-bytes (a .number) n, four-bytes (a .lowest) low, four-bytes (a .highest) high)
+reads-back a n low high =
+    let back = question-laws .number-reads-back in
+    rw (back (a .number) n, back (a .lowest) low, back (a .highest) high)
 
 -- a byte of a part
 byte-of : (s : List ℕ) (at i m : ℕ) → i < answerBytes → m ≡ at + i → getD (take answerBytes (drop at s)) i 0 ≡ getD s m 0
@@ -108,15 +105,15 @@ length-question s k h =
 
 -- ---- answer k as numbers
 
-small-number : (n : ℕ) → T (isQuestionNumber n) → n < 4294967296
+small-number : (n : ℕ) → T (isQuestionNumber n) → n < numberBound
 small-number n h =
     ⊎-elim
     (λ e. let z : n ≡ 0 = eqb-true n 0 (passed (eqb n 0) e) in omega arith)
     (λ m. let z : n ≤ 10 = leb→le n 10 (and-right (leb 2 n) (leb n 10) m) in omega arith)
     (or-cases (eqb n 0) (leb 2 n && leb n 10) h)
 
-module _ (t : Table) (wf : T (wellFormed t)) (fits : lastPrice (ladder t) < 4294967296) where
-  small-price : (p : ℕ) → T (isLadderPrice p t) → p < 4294967296
+module _ (t : Table) (wf : T (wellFormed t)) (fits : lastPrice (ladder t) < numberBound) where
+  small-price : (p : ℕ) → T (isLadderPrice p t) → p < numberBound
   small-price p on = let m = ladder-laws .ends-are-the-tables t wf .none-above p on in omega arith
 
   whole-answer : (percent : Percentage) (q : List ℕ) → length q ≡ questionBytes → answerAt 0 (encoded (judged (ladder t) percent q)) ≡ judged (ladder t) percent q

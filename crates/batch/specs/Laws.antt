@@ -11,6 +11,7 @@ use Rattle.ladder.specs.Ladder.{Prices, ladder}
 use Rattle.ladder.specs.Places.{lastPrice}
 use Rattle.limits.specs.declared.Percentage.{Percentage}
 use Rattle.questions.specs.Record.{Bytes, questionBytes, priceOf, countOf, questionAt}
+use Rattle.questions.specs.Laws.{numberBound}
 use Rattle.judging.specs.Answers.{judged}
 use Rattle.judging.specs.Laws.{notRefused, SameButPrice, SameRange}
 use Rattle.batch.specs.Record.{answerBytes, encoded, answerAt}
@@ -37,7 +38,7 @@ AnswerAlone =
 -- Read from the buffer, its three numbers are those of the answer, whole, with every table whose prices have 4 bytes.
 abbrev pub AnswerReadsBack : Type 0
 AnswerReadsBack =
-    (t : Table) → T (wellFormed t) → lastPrice (ladder t) < 4294967296 → (percent : Percentage) (s a : Bytes) → T (isJudged s a) → (k : ℕ) →
+    (t : Table) → T (wellFormed t) → lastPrice (ladder t) < numberBound → (percent : Percentage) (s a : Bytes) → T (isJudged s a) → (k : ℕ) →
     k < countOf (length s) → answerAt (k * answerBytes) (bufferAfter (ladder t) percent s a) ≡ judged (ladder t) percent (questionAt k s)
 
 -- two lists of records, each of `size` bytes, that agree in all bytes but those of record j
@@ -59,7 +60,7 @@ OthersKept = (l : Prices) (percent : Percentage) (j : ℕ) (s u a : Bytes) → S
 -- first is answered 0 or 6 to 10, so is the second; it shows the same range, and is accepted exactly in that range.
 abbrev pub AnyOrderPriceInBatch : Type 0
 AnyOrderPriceInBatch =
-    (t : Table) → T (wellFormed t) → lastPrice (ladder t) < 4294967296 → (percent : Percentage) (s u a b : Bytes) → T (isJudged s a) →
+    (t : Table) → T (wellFormed t) → lastPrice (ladder t) < numberBound → (percent : Percentage) (s u a b : Bytes) → T (isJudged s a) →
     T (isJudged u b) → (k : ℕ) → k < countOf (length s) → k < countOf (length u) → SameButPrice (questionAt k s) (questionAt k u) →
     T (notRefused (answerAt (k * answerBytes) (bufferAfter (ladder t) percent s a) .number)) →
     SameRange t (answerAt (k * answerBytes) (bufferAfter (ladder t) percent s a)) (answerAt (k * answerBytes) (bufferAfter (ladder t) percent u b))

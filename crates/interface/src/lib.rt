@@ -105,7 +105,7 @@ pub extern "C" fn hendovita_upper_limit(reference: u32) -> PriceFound
     results::price_found(limits::upper_limit(reference))
 }
 
-// The lower 5 percent limit of a reference, before 24 spreads are looked at; none off the ladder.
+// The lower 5 percent limit of a reference, before spreads are looked at; none off the ladder.
 #[no_mangle]
 pub extern "C" fn hendovita_five_percent_lower(reference: u32) -> PriceFound
     ensures { λ r. ⌜ r ≡ priceFound (percentLowerFound (ladder phase1) fivePercent reference) ⌝ }
@@ -113,7 +113,7 @@ pub extern "C" fn hendovita_five_percent_lower(reference: u32) -> PriceFound
     results::price_found(limits::five_percent_lower(reference))
 }
 
-// The upper 5 percent limit of a reference, before 24 spreads are looked at; none off the ladder.
+// The upper 5 percent limit of a reference, before spreads are looked at; none off the ladder.
 #[no_mangle]
 pub extern "C" fn hendovita_five_percent_upper(reference: u32) -> PriceFound
     ensures { λ r. ⌜ r ≡ priceFound (percentUpperFound (ladder phase1) fivePercent reference) ⌝ }

@@ -31,7 +31,7 @@ use Rattle.judging.specs.declared.Verdict.the-variants.{Accepted, Outsid
 use Rattle.judging.specs.Shown.{isShown, shownOf}
 use Rattle.judging.specs.Cutting.{cutLowest, cutHighest}
 use Rattle.judging.specs.Verdicts.{verdictOf}
-use Rattle.judging.specs.Numbers.{refusalNumber, verdictNumber}
+use Rattle.judging.specs.Numbers.{wrongLength, refusalNumber, verdictNumber}
 use Rattle.judging.specs.Answers.{noneShown, answerOn, answerBy, answerDecoded, judged}
 use Rattle.judging.specs.Laws.{ShownIsExactly, LadderRange, RangeOrNone, notRefused, SameRange, AnyOrderPrice, isQuestionNumber, isRefusal, QuestionNumbers, JudgingLaws}
 use Rattle.judging.proofs.Cuts.{window}
@@ -106,7 +106,7 @@ by-reading : (l : List ℕ) (percent : Percentage) (s : List ℕ) → length s �
 unfolding judged
 by-reading l percent s n = rw (eq-eqb (length s) questionBytes n)
 
-other-bytes : (l : List ℕ) (percent : Percentage) (s : List ℕ) → (length s ≡ questionBytes → ⊥) → judged l percent s ≡ noneShown 1
+other-bytes : (l : List ℕ) (percent : Percentage) (s : List ℕ) → (length s ≡ questionBytes → ⊥) → judged l percent s ≡ noneShown wrongLength
 unfolding judged
 other-bytes l percent s n = rw (ne-eqb (length s) questionBytes n)
 

@@ -3,5 +3,5 @@
 pub mod Laws
 mod Cuts
 mod Windows
-pub mod Acceptance
+mod Acceptance
 mod Fields

@@ -1,5 +1,5 @@
--- The bounds of a range cut by the nine-fold rule, as the code computes them: 9 times p is more than n from n / 9 + 1 on, and p is
--- less than 9 times n up to 9 n - 1; and the range between them. Answers are stated by shownOf, never by these.
+-- The bounds of a range cut by the nine-fold rule, as the code computes them: fold times p is more than n from n / fold + 1 on, and p is
+-- less than fold times n up to fold n - 1; and the range between them. Answers are stated by shownOf, never by these.
 use Prim.Native.Nat.{ℕ, _+_, _-_, _*_, _/_, min, max}
 use mathlib.Core.Bool.{cond}
 use lib.Dec.{ltb}

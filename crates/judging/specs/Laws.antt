@@ -2,17 +2,18 @@
 -- the field any-order-price.
 use mathlib.Core.Logic.{_⊎_}
 use mathlib.Core.Path.{_≡_}
-use Prim.Native.Nat.{ℕ, _≤_, _<_}
+use Prim.Native.Nat.{ℕ, _+_, _≤_, _<_}
 use mathlib.Core.Bool.{Bool, _&&_, _||_}
 use lib.Dec.{T, eqb, leb}
 use lib.ListN.{length, getD}
 use Rattle.ladder.specs.Bands.{Table, wellFormed}
 use Rattle.ladder.specs.Ladder.{Prices, ladder, isLadderPrice}
 use Rattle.limits.specs.declared.Percentage.{Percentage}
-use Rattle.questions.specs.Record.{Bytes, questionBytes, priceOf}
+use Rattle.questions.specs.Record.{Bytes, questionBytes, priceByte, priceOf}
 use Rattle.ranges.specs.declared.Range.{Range}
 use Rattle.judging.specs.declared.Answer.{Answer}
 use Rattle.judging.specs.Shown.{isShown, shownOf}
+use Rattle.judging.specs.Numbers.{wrongLength}
 use Rattle.judging.specs.Answers.{noneShown, judged}
 
 -- The shown range is exactly the ladder prices that are in the permitted range and pass the nine-fold rule: a ladder price is one of
@@ -39,10 +40,10 @@ RangeOrNone =
 abbrev pub notRefused : ℕ → Bool
 notRefused n = eqb n 0 || leb 6 n && leb n 10
 
--- two questions that agree in all bytes but the order price's, 4 to 7
+-- two questions that agree in all bytes but the four of the order price
 pub record SameButPrice (s u : Bytes) : Type 0 where
-  pub before : (i : ℕ) → i < 4 → getD s i 0 ≡ getD u i 0
-  pub after : (i : ℕ) → 8 ≤ i → i < questionBytes → getD s i 0 ≡ getD u i 0
+  pub before : (i : ℕ) → i < priceByte → getD s i 0 ≡ getD u i 0
+  pub after : (i : ℕ) → priceByte + 4 ≤ i → i < questionBytes → getD s i 0 ≡ getD u i 0
 
 -- what holds of an answer b to the price p, where a is the answer to the same question with another order price: it is not refused either,
 -- shows the same range, and is accepted exactly where p is a ladder price from the lowest shown to the highest shown, and never where 0 and
@@ -72,7 +73,7 @@ isRefusal n = leb 1 n && leb n 5
 -- The numbers that a question can get: 0 and 2 to 10 with 40 bytes, and else 1; 1 to 5 show 0 and 0.
 pub record Numbers (a : Answer) (s : Bytes) : Type 0 where
   pub of-a-question : length s ≡ questionBytes → T (isQuestionNumber (a .number))
-  pub of-other-bytes : (length s ≡ questionBytes → ⊥) → a ≡ noneShown 1
+  pub of-other-bytes : (length s ≡ questionBytes → ⊥) → a ≡ noneShown wrongLength
   pub refused : T (isRefusal (a .number)) → a ≡ noneShown (a .number)
 
 abbrev pub QuestionNumbers : Type 0

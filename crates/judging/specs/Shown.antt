@@ -1,5 +1,5 @@
 -- The nine-fold rule, and the shown range. Document 01, "Permitted range". Over any ladder l, the list of its prices, and any three numbers as a
--- range. House reading: exactly nine times, and exactly a ninth, fail; the rule is for all order types.
+-- range. House reading: exactly nine times, and exactly a ninth, fail.
 use Prim.Native.Nat.{ℕ, _*_}
 use mathlib.Core.Bool.{Bool, true, _&&_}
 use lib.Dec.{leb, ltb}

@@ -1,5 +1,5 @@
 -- The verdict on a price against a permitted range. "Checks run in number order; the first that applies is the answer."
--- Each of these checks is caused by the client who enters the order.
+-- Each of these checks is caused by the client who enters the order. Document 01, "Why a question comes back".
 use Prim.Native.Nat.{ℕ}
 use mathlib.Core.Bool.{Bool, not, cond, _||_}
 use lib.Dec.{ltb}

@@ -25,11 +25,11 @@ percentLower l percent r = orElse (lastPrice l) (first (atLeast (percent .scale)
 abbrev pub percentUpper : Prices → Percentage → ℕ → ℕ
 percentUpper l percent r = orElse (firstPrice l) (latest (atMost (percent .scale) (percent .upper * r)) l)
 
--- the lower limit: the smaller of r after 24 single spreads down and the percentage limit
+-- the lower limit: the smaller of r after so many single spreads down and the percentage limit
 abbrev pub lowerLimit : Prices → Percentage → ℕ → ℕ
 lowerLimit l percent r = min (times limitSpreads (spreadDown l) r) (percentLower l percent r)
 
--- the upper limit: the larger of r after 24 single spreads up and the percentage limit
+-- the upper limit: the larger of r after so many single spreads up and the percentage limit
 abbrev pub upperLimit : Prices → Percentage → ℕ → ℕ
 upperLimit l percent r = max (times limitSpreads (spreadUp l) r) (percentUpper l percent r)
 

@@ -1,4 +1,4 @@
-// The limits of a reference: a percentage or 24 spreads, whichever is further.
+// The limits of a reference: a percentage or so many spreads, whichever is further.
 //
 // The calls of this file use the Phase 1 table and 5 percent. Those of `percent` and `limit` are lent a table and take a percentage; their
 // contracts hold for every well-formed table and any percentage. Prices are whole mils.

@@ -10,7 +10,7 @@ use Rattle.questions.specs.declared.Reference.{Reference}
 use Rattle.questions.specs.declared.Reference.the-variants.{Missing, Price}
 use Rattle.questions.specs.Missing.{referenceOf, numberOf}
 use Rattle.questions.specs.Record.{number, fourBytes, codesOf, referencesOf, bytesOf}
-use Rattle.questions.specs.Laws.{byteBound, numberBound, isWritable, BytesDecode, areBytes, BytesFit, QuestionLaws}
+use Rattle.questions.specs.Laws.{byteBound, numberBound, isWritable, BytesDecode, areBytes, BytesFit, NumberReadsBack, QuestionLaws}
 
 -- digits to base 256, put together: x from a and its lowest digit, a from b, b from c
 together : (x a b c lowest second third : ℕ) → a * 256 + lowest ≡ x → b * 256 + second ≡ a → c * 256 + third ≡ b →
@@ -18,8 +18,8 @@ together : (x a b c lowest second third : ℕ) → a * 256 + lowest ≡ x → b 
 together x a b c lowest second third e f g = omega arith
 
 -- a number that fits is the number of its four bytes
-number-back : (x : ℕ) → x < numberBound → number 0 (fourBytes x) ≡ x
-number-back x fits =
+number-reads-back : NumberReadsBack
+number-reads-back x fits =
     rw (mod-eq-of-lt {n = x / 16777216} {m = 256} (omega arith))
     (together x (x / 256) (x / 65536) (x / 16777216) _ _ _
     (div-add-mod' x 256)
@@ -35,7 +35,7 @@ reference-back (Price p) fits = go (ltb 0 p) (ltb p numberBound) refl refl fits
         referenceOf (number 0 (fourBytes p)) ≡ Price p
     go true true a b fits =
         let positive = ltb-true 0 p a in
-        rw (number-back p (ltb-true p numberBound b), ne-eqb p 0 (λ e. omega arith))
+        rw (number-reads-back p (ltb-true p numberBound b), ne-eqb p 0 (λ e. omega arith))
     go true false a b fits = absurd fits
     go false small a b fits = absurd fits
 
@@ -43,7 +43,7 @@ bytes-decode : BytesDecode
 unfolding codesOf referencesOf bytesOf
 bytes-decode q fits =
     rw (
-      number-back (q .price) (fits .price),
+      number-reads-back (q .price) (fits .price),
       reference-back (q .references .«current_bid») (fits .current-bid),
       reference-back (q .references .«current_ask») (fits .current-ask),
       reference-back (q .references .«last_bid») (fits .last-bid),
@@ -69,4 +69,4 @@ bytes-fit q fits =
     )
 
 pub question-laws : QuestionLaws
-question-laws = record { bytes-decode = bytes-decode; bytes-fit = bytes-fit }
+question-laws = record { number-reads-back = number-reads-back; bytes-decode = bytes-decode; bytes-fit = bytes-fit }

@@ -9,7 +9,7 @@ use Rattle.questions.specs.declared.Reference.{Reference}
 use Rattle.questions.specs.declared.Reference.the-variants.{Missing, Price}
 use Rattle.questions.specs.declared.Question.{Question}
 use Rattle.questions.specs.declared.Decoded.the-variants.{Asked}
-use Rattle.questions.specs.Record.{Bytes, decoded, bytesOf}
+use Rattle.questions.specs.Record.{Bytes, number, fourBytes, decoded, bytesOf}
 
 -- every byte is below 256, every number of four bytes below 256 * 256 * 256 * 256
 abbrev pub byteBound : ℕ
@@ -39,6 +39,10 @@ pub record Fits (q : Question) : Type 0 where
   pub day-high : T (isWritable (q .references .«day_high»))
   pub nominal : T (isWritable (q .references .nominal))
 
+-- A number that fits four bytes is read back from them.
+abbrev pub NumberReadsBack : Type 0
+NumberReadsBack = (x : ℕ) → x < numberBound → number 0 (fourBytes x) ≡ x
+
 -- The bytes of such a question are read back as that question: each has its bytes, so what is said of all bytes is said of each question.
 abbrev pub BytesDecode : Type 0
 BytesDecode = (q : Question) → Fits q → decoded (bytesOf q) ≡ Asked q
@@ -54,5 +58,6 @@ BytesFit = (q : Question) → Fits q → areBytes (bytesOf q) ≡ true
 -- ---- all of them
 
 pub record QuestionLaws : Type 0 where
+  pub number-reads-back : NumberReadsBack
   pub bytes-decode : BytesDecode
   pub bytes-fit : BytesFit

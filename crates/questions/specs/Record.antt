@@ -40,8 +40,11 @@ codesOf s = record { side = getD s 0 0; «order_type» = getD s 1 0; queue = get
 
 -- "Then nine 4-byte little-endian mils: order price, current bid, current ask, last bid, last ask, previous close, day low, day high
 -- (transacted prices), nominal price."
+abbrev pub priceByte : ℕ
+priceByte = 4
+
 abbrev pub priceOf : Bytes → ℕ
-priceOf s = number 4 s
+priceOf s = number priceByte s
 
 unfoldable pub referencesOf : Bytes → References
 referencesOf s =

@@ -1,5 +1,5 @@
 -- The reading of a question: "Checks run in number order; the first that applies is the answer". Checks 2 to 5, then the permitted
--- range. The order price plays no part in it.
+-- range. The order price plays no part in it. Document 01, "Why a question comes back".
 use mathlib.Core.Bool.{Bool, true, false, cond}
 use Rattle.ladder.specs.Ladder.{Prices}
 use Rattle.limits.specs.declared.Percentage.{Percentage}

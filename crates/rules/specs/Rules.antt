@@ -1,5 +1,5 @@
 -- "The side, order type and queue code together choose the range": the rule, and the queues with the
--- current or last bid and ask that the rules look at.
+-- current or last bid and ask that the rules look at. Document 01, "Question and answer" and "Permitted range".
 use Prim.Native.Nat.{ℕ}
 use mathlib.Core.Bool.{Bool, not, cond, _||_}
 use lib.Dec.{eqb}

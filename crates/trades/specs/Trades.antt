@@ -1,4 +1,4 @@
--- Off-System trades: "Six numbers of 4 bytes, in mils, handed over as numbers and not as a record: trade price, previous close, lowest
+-- Document 01, "Off-System trades": "Six numbers of 4 bytes, in mils, handed over as numbers and not as a record: trade price, previous close, lowest
 -- bid, lowest ask, highest bid, highest ask of the day so far." Over any ladder l, the list of its prices, and any percentage. House reading: a trade
 -- price need not be on the ladder.
 use Prim.Native.Nat.{ℕ}

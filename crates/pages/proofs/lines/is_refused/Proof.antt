@@ -7,6 +7,8 @@ use native.Mathlib.Omega.{arith}
 use mathlib.Core.Bool.{Bool, true, false}
 use lib.Dec.{ltb}
 use borrow.Author.Tests.{ltb-true, ltb-false, lt-ltb}
+use Rattle.questions.specs.Record.{countOf}
+use Rattle.pages.specs.Pages.{lineRoom, leftRoom}
 use Rattle.pages.proofs.lines.is_refused.Statement.{statement}
 use Rattle.pages.proofs.lines.is_refused.Tie as tie
 
@@ -21,14 +23,14 @@ same-test a b c d to from = go (ltb a b) (ltb c d) refl refl
     go false true e f = absurd (not-le-of-lt (from (ltb-true c d f)) (ltb-false a b e))
 
 returns : tie.Need-returns
-returns c = let s = c .before in rw (lt-ltb (s .args .room) (s .args .asked / 40 * 54 + 8) (omega arith))
+returns c = let s = c .before in rw (lt-ltb (s .args .room) (countOf (s .args .asked) * lineRoom + leftRoom) (omega arith))
 
 returns-2 : tie.Need-returns-2
 returns-2 c =
     let s = c .before in
-    let count = s .args .asked / 40 in
+    let count = countOf (s .args .asked) in
     rw (
-      same-test ((s .args .room - 8) / 54) count (s .args .room) (count * 54 + 8) (λ h. omega arith) (λ h. omega arith),
+      same-test ((s .args .room - leftRoom) / lineRoom) count (s .args .room) (count * lineRoom + leftRoom) (λ h. omega arith) (λ h. omega arith),
       same-test (18446744073709551615 - count) (s .args .first) 18446744073709551615 (s .args .first + count) (λ h. omega arith) (λ h. omega arith),
     )
 
