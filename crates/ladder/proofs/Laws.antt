@@ -24,7 +24,7 @@ use Rattle.ladder.specs.Laws.{SpreadUpIsNext, SpreadDownIsPrevious, Spre
 use Rattle.ladder.specs.Laws.{SpreadsKeepOrder, RoundingKeepsOrder, LadderLaws}
 use Rattle.ladder.proofs.Lists.Ends.{over-first, under-last, first-held, last-held}
 use Rattle.ladder.proofs.Lists.Entries.{at-place, past, entry-held, held-entry, place-of-entry, place-off, entry-of-place}
-use Rattle.ladder.proofs.Lists.Extremes.{Best, Result, result-is, result-none, least-one, greatest-one, first-result, latest-result}
+use Rattle.ladder.proofs.Lists.Extremes.{Best, None, Result, result-is, result-none, least-one, greatest-one, first-result, latest-result}
 use Rattle.ladder.proofs.Lists.Moves.{times-add}
 use Rattle.ladder.proofs.Lists.Going.{ups-entry, downs-entry}
 use Rattle.ladder.proofs.Lists.Order.{up-by, down-by, up-on, down-on, times-on, times-lead, spreads-up-order, spreads-down-order}
@@ -114,32 +114,29 @@ latest-is-largest t wf test = finds-of t wf Greatest test (latest test (ladder t
 
 -- ---- spreads
 
+-- a single spread, either way: it ends where `by` says, on the extreme price that passes, or stays at p
+module _ (t : List Band) (wf : T (wellFormed t)) (R : ℕ → ℕ → Type 0) (test : ℕ → Bool) (p spread : ℕ)
+    (by : (P : ℕ → Type 0) → ((q : ℕ) → Best R test (ladder t) q → P q) → (None test (ladder t) → P p) → P spread) where
+  moved : (x : ℕ) → T (isLadderPrice x t) → T (test x) → Extreme R t test spread
+  moved x on m = by (Extreme R t test) (extreme-of t wf R test) (λ n. absurd (n x (listed t wf x on) m))
+
+  stayed : NonePasses t test → spread ≡ p
+  stayed none = by (λ q. q ≡ p) (λ q b. absurd (none q (priced t wf q (b .on)) (b .passes))) (λ n. refl)
+
 spread-up-is-next : SpreadUpIsNext
 spread-up-is-next t wf p =
+    let by = up-by (ladder t) (rises t wf) p in
     record {
-      moves =
-          λ x on over.
-          up-by (ladder t) (rises t wf) p (Extreme Least t (above p)) (extreme-of t wf Least (above p))
-          (λ n. absurd (n x (listed t wf x on) (lt→ltb p x over)));
-      stays =
-          λ top.
-          up-by (ladder t) (rises t wf) p (λ q. q ≡ p)
-          (λ q b. let m : p < q = ltb→lt p q (b .passes) in let u : q ≤ p = top q (priced t wf q (b .on)) in omega arith)
-          (λ n. refl);
+      moves = λ x on over. moved t wf Least (above p) p _ by x on (lt→ltb p x over);
+      stays = λ top. stayed t wf Least (above p) p _ by (λ q on m. absurd (omega (arith, top q on, ltb→lt p q m)));
     }
 
 spread-down-is-previous : SpreadDownIsPrevious
 spread-down-is-previous t wf p =
+    let by = down-by (ladder t) (rises t wf) p in
     record {
-      moves =
-          λ x on under.
-          down-by (ladder t) (rises t wf) p (Extreme Greatest t (below p)) (extreme-of t wf Greatest (below p))
-          (λ n. absurd (n x (listed t wf x on) (lt→ltb x p under)));
-      stays =
-          λ bottom.
-          down-by (ladder t) (rises t wf) p (λ q. q ≡ p)
-          (λ q b. let m : q < p = ltb→lt q p (b .passes) in let u : p ≤ q = bottom q (priced t wf q (b .on)) in omega arith)
-          (λ n. refl);
+      moves = λ x on under. moved t wf Greatest (below p) p _ by x on (lt→ltb x p under);
+      stays = λ bottom. stayed t wf Greatest (below p) p _ by (λ q on m. absurd (omega (arith, bottom q on, ltb→lt q p m)));
     }
 
 spreads-stay : SpreadsStay
