@@ -34,6 +34,15 @@ percentage-finds t wf percent r on =
           (λ e. ladder-laws .latest-is-largest t wf (atMost scale (percent .upper * r)) .nothing e r on (le→leb _ _ (mul-le-mul-right r m)));
     }
 
+-- ---- order
+
+limits-are-ordered : LimitsAreOrdered
+limits-are-ordered t wf percent p q h k m =
+    let spreads = ladder-laws .spreads-keep-order t wf limitSpreads p q h k m in
+    let lower = ladder-laws .rounding-keeps-order t wf (percent .scale) _ _ (mul-le-mul-left (percent .lower) m) in
+    let upper = ladder-laws .rounding-keeps-order t wf (percent .scale) _ _ (mul-le-mul-left (percent .upper) m) in
+    record { lower = omega (arith, spreads .down, lower .at-least); upper = omega (arith, spreads .up, upper .at-most) }
+
 -- ---- where a limit lies
 
 -- a rounded price is on the ladder: what was found, or the end that stands in
@@ -55,14 +64,7 @@ limits-enclose t wf percent r on =
       upper-above = omega (arith, spreads .up-above);
     }
 
--- ---- order
-
-limits-are-ordered : LimitsAreOrdered
-limits-are-ordered t wf percent p q h k m =
-    let spreads = ladder-laws .spreads-keep-order t wf limitSpreads p q h k m in
-    let lower = ladder-laws .rounding-keeps-order t wf (percent .scale) _ _ (mul-le-mul-left (percent .lower) m) in
-    let upper = ladder-laws .rounding-keeps-order t wf (percent .scale) _ _ (mul-le-mul-left (percent .upper) m) in
-    record { lower = omega (arith, spreads .down, lower .at-least); upper = omega (arith, spreads .up, upper .at-most) }
+-- ---- demand 3c
 
 -- a limit of two ladder prices, from the numbers that it has for them
 no-smaller : (limit : ℕ → ℕ) (p q : ℕ) → T (isLadderPrice p phase1) → T (isLadderPrice q phase1) → limit p ≤ limit q →
