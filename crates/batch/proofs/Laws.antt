@@ -16,9 +16,10 @@ use Rattle.ladder.specs.Places.{lastPrice}
 use Rattle.facts.proofs.Tests.{passed, and-right, or-cases}
 use Rattle.ladder.proofs.Laws.{ladder-laws}
 use Rattle.limits.specs.declared.Percentage.{Percentage}
-use Rattle.questions.specs.Record.{questionBytes, number, countOf, questionAt}
-use Rattle.questions.specs.Laws.{numberBound}
-use Rattle.questions.proofs.Laws.{question-laws}
+use Rattle.little_endian.specs.Numbers.{number}
+use Rattle.questions.specs.Record.{questionBytes, countOf, questionAt}
+use Rattle.little_endian.specs.Laws.{numberBound}
+use Rattle.little_endian.proofs.Laws.{number-laws}
 use Rattle.judging.specs.declared.Answer.{Answer}
 use Rattle.judging.specs.Answers.{judged}
 use Rattle.judging.specs.Laws.{notRefused, isQuestionNumber}
@@ -72,7 +73,7 @@ answer-alone l percent s a h k m = rw (buffer-is l percent s a h) (part-of l per
 reads-back : (a : Answer) → a .number < numberBound → a .lowest < numberBound → a .highest < numberBound → answerAt 0 (encoded a) ≡ a
 unfolding encoded
 reads-back a n low high =
-    let back = question-laws .number-reads-back in
+    let back = number-laws .number-reads-back in
     rw (back (a .number) n, back (a .lowest) low, back (a .highest) high)
 
 -- a byte of a part

@@ -2,19 +2,14 @@
 use mathlib.Core.Path.{_≡_, _∙_, sym}
 use Prim.Native.Nat.{ℕ, _+_}
 use native.Mathlib.Omega.{arith}
-use mathlib.Core.List.{List, [], _∷_, _++_, append-assoc, append-nil}
-use lib.ListN.{length, take, drop, set, length-append, length-drop, drop-of-length-le}
-use lib.Seq.{take-at, drop-at, sets-eq}
+use mathlib.Core.List.{List, [], _++_, append-assoc, append-nil}
+use lib.ListN.{length, take, drop, length-append, length-drop, drop-of-length-le}
+use lib.Seq.{take-at, drop-at}
 
 -- after f, the next k bytes are replaced by g
 pub placed : (f rest g : List ℕ) (a k : ℕ) → length f ≡ a →
     take a (f ++ rest) ++ (g ++ drop k (drop a (f ++ rest))) ≡ f ++ g ++ drop k rest
 placed f rest g a k n = rw (take-at f rest a n, drop-at f rest a n) (sym (append-assoc f g (drop k rest)))
-
--- four stores fill a list of four
-pub four-stores : (l : List ℕ) (a b c d : ℕ) → length l ≡ 4 → set (set (set (set l 0 a) 1 b) 2 c) 3 d ≡ a ∷ b ∷ c ∷ d ∷ []
-four-stores l a b c d n =
-    sets-eq (a ∷ b ∷ c ∷ d ∷ []) l 0 (omega arith) ∙ rw (drop-of-length-le l {i = 4} (omega arith))
 
 -- three parts of four, one after the other, fill a list of twelve
 pub three-parts : (l f g h : List ℕ) → length l ≡ 12 → length f ≡ 4 → length g ≡ 4 →

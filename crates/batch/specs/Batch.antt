@@ -6,7 +6,8 @@ use lib.Dec.{eqb, ltb}
 use lib.ListN.{length, drop}
 use Rattle.ladder.specs.Ladder.{Prices}
 use Rattle.limits.specs.declared.Percentage.{Percentage}
-use Rattle.questions.specs.Record.{Bytes, questionBytes, countOf, questionAt}
+use Rattle.little_endian.specs.Numbers.{Bytes}
+use Rattle.questions.specs.Record.{questionBytes, countOf, questionAt}
 use Rattle.judging.specs.Answers.{judged}
 use Rattle.batch.specs.declared.Outcome.{Outcome}
 use Rattle.batch.specs.Record.{answerBytes, encoded}

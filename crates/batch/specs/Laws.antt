@@ -10,8 +10,9 @@ use Rattle.ladder.specs.Bands.{Table, wellFormed}
 use Rattle.ladder.specs.Ladder.{Prices, ladder}
 use Rattle.ladder.specs.Places.{lastPrice}
 use Rattle.limits.specs.declared.Percentage.{Percentage}
-use Rattle.questions.specs.Record.{Bytes, questionBytes, priceOf, countOf, questionAt}
-use Rattle.questions.specs.Laws.{numberBound}
+use Rattle.little_endian.specs.Numbers.{Bytes}
+use Rattle.questions.specs.Record.{questionBytes, priceOf, countOf, questionAt}
+use Rattle.little_endian.specs.Laws.{numberBound}
 use Rattle.judging.specs.Answers.{judged}
 use Rattle.judging.specs.Laws.{notRefused, SameButPrice, SameRange}
 use Rattle.batch.specs.Record.{answerBytes, encoded, answerAt}

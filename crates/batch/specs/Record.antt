@@ -1,7 +1,7 @@
 -- An answer as 12 bytes. Document 01, "Question and answer".
 use Prim.Native.Nat.{ℕ, _+_}
 use mathlib.Core.List.{_++_}
-use Rattle.questions.specs.Record.{Bytes, number, fourBytes}
+use Rattle.little_endian.specs.Numbers.{Bytes, number, fourBytes}
 use Rattle.judging.specs.declared.Answer.{Answer}
 
 -- how many bytes an answer has

@@ -21,7 +21,8 @@ use Rattle.rules.specs.declared.Choice.the-variants.{Chosen, Unknown}
 use Rattle.questions.specs.declared.Decoded.{Decoded}
 use Rattle.questions.specs.declared.Decoded.the-variants.{Asked, WrongLength}
 use Rattle.questions.specs.Missing.{least, greatest, priceOr}
-use Rattle.questions.specs.Record.{Bytes, decoded}
+use Rattle.little_endian.specs.Numbers.{Bytes}
+use Rattle.questions.specs.Record.{decoded}
 use Rattle.questions.specs.Checks.{anyOff}
 use Rattle.rules.specs.Checks.{disagree, unopposed}
 use Rattle.rules.specs.Rules.{chosen, askOf, bidOf}

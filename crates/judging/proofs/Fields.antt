@@ -3,7 +3,8 @@ use mathlib.Core.Path.{_≡_}
 use Prim.Native.Nat.{ℕ, _+_, _≤_, _<_}
 use native.Mathlib.Omega.{arith}
 use mathlib.Core.List.{List}
-use Rattle.questions.specs.Record.{questionBytes, number, codesOf, referencesOf}
+use Rattle.little_endian.specs.Numbers.{number}
+use Rattle.questions.specs.Record.{questionBytes, codesOf, referencesOf}
 use Rattle.judging.specs.Laws.{SameButPrice}
 
 module _ (s u : List ℕ) (same : SameButPrice s u) where

@@ -5,7 +5,8 @@ use Rattle.limits.specs.declared.Percentage.{Percentage}
 use Rattle.questions.specs.declared.Question.{Question}
 use Rattle.questions.specs.declared.Decoded.{Decoded}
 use Rattle.questions.specs.declared.Decoded.the-variants.{Asked, WrongLength}
-use Rattle.questions.specs.Record.{Bytes, decoded}
+use Rattle.little_endian.specs.Numbers.{Bytes}
+use Rattle.questions.specs.Record.{decoded}
 use Rattle.ranges.specs.declared.Range.{Range}
 use Rattle.ranges.specs.declared.Refusal.{Refusal}
 use Rattle.ranges.specs.declared.Reading.{Reading}

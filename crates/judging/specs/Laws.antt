@@ -9,7 +9,8 @@ use lib.ListN.{length, getD}
 use Rattle.ladder.specs.Bands.{Table, wellFormed}
 use Rattle.ladder.specs.Ladder.{Prices, ladder, isLadderPrice}
 use Rattle.limits.specs.declared.Percentage.{Percentage}
-use Rattle.questions.specs.Record.{Bytes, questionBytes, priceByte, priceOf}
+use Rattle.little_endian.specs.Numbers.{Bytes}
+use Rattle.questions.specs.Record.{questionBytes, priceByte, priceOf}
 use Rattle.ranges.specs.declared.Range.{Range}
 use Rattle.judging.specs.declared.Answer.{Answer}
 use Rattle.judging.specs.Shown.{isShown, shownOf}

@@ -7,7 +7,8 @@ use lib.ListN.{length, drop}
 use Rattle.text.specs.Decimal.{Text}
 use Rattle.ladder.specs.Ladder.{Prices}
 use Rattle.limits.specs.declared.Percentage.{Percentage}
-use Rattle.questions.specs.Record.{Bytes, questionBytes, countOf}
+use Rattle.little_endian.specs.Numbers.{Bytes}
+use Rattle.questions.specs.Record.{questionBytes, countOf}
 use Rattle.pages.specs.declared.Page.the-variants.{From}
 use Rattle.pages.specs.Lines.{page}
 use Rattle.pages.specs.Pages.{pagePlace, textAfter}

@@ -5,7 +5,8 @@ use lib.ListN.{length}
 use Rattle.text.specs.Decimal.{Text, field}
 use Rattle.ladder.specs.Ladder.{Prices}
 use Rattle.limits.specs.declared.Percentage.{Percentage}
-use Rattle.questions.specs.Record.{Bytes, questionBytes, countOf, questionAt}
+use Rattle.little_endian.specs.Numbers.{Bytes}
+use Rattle.questions.specs.Record.{questionBytes, countOf, questionAt}
 use Rattle.judging.specs.declared.Answer.{Answer}
 use Rattle.judging.specs.Answers.{judged}
 

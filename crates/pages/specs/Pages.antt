@@ -7,7 +7,8 @@ use Rattle.text.specs.Decimal.{Text}
 use Rattle.text.specs.Ending.{endingAt}
 use Rattle.ladder.specs.Ladder.{Prices}
 use Rattle.limits.specs.declared.Percentage.{Percentage}
-use Rattle.questions.specs.Record.{Bytes, countOf}
+use Rattle.little_endian.specs.Numbers.{Bytes}
+use Rattle.questions.specs.Record.{countOf}
 use Rattle.pages.specs.declared.Page.{Page}
 use Rattle.pages.specs.declared.Page.the-variants.{From, Refused}
 use Rattle.pages.specs.Lines.{page}

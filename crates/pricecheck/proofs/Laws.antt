@@ -13,7 +13,8 @@ use Rattle.ladder.specs.Bands.{phase1}
 use Rattle.ladder.specs.Ladder.{ladder}
 use Rattle.facts.proofs.Tests.{and-left, and-right}
 use Rattle.limits.specs.Limits.{fivePercent}
-use Rattle.questions.specs.Record.{Bytes, countOf}
+use Rattle.little_endian.specs.Numbers.{Bytes}
+use Rattle.questions.specs.Record.{countOf}
 use Rattle.pages.specs.Pages.{lineRoom, leftRoom}
 use Rattle.pages.proofs.Laws.{page-laws}
 use Rattle.pricecheck.specs.Run.{pageFrom, pieceBytes, textBytes, firstOf, answeredPart, goesOn, runFrom}

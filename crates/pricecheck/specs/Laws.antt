@@ -7,7 +7,7 @@ use mathlib.Core.List.{List, [], _∷_, _++_}
 use lib.Dec.{T, eqb}
 use lib.ListN.{length}
 use Rattle.text.specs.Decimal.{Text}
-use Rattle.questions.specs.Record.{Bytes}
+use Rattle.little_endian.specs.Numbers.{Bytes}
 use Rattle.pages.specs.Pages.{pageRefused}
 use Rattle.pricecheck.specs.Run.{pageFrom, printed, pieceBytes, textBytes, firstOf, answeredPart, runFrom}
 

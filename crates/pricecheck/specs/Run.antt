@@ -10,7 +10,8 @@ use Rattle.text.specs.Decimal.{Text}
 use Rattle.ladder.specs.Bands.{phase1}
 use Rattle.ladder.specs.Ladder.{ladder}
 use Rattle.limits.specs.Limits.{fivePercent}
-use Rattle.questions.specs.Record.{Bytes, questionBytes, countOf}
+use Rattle.little_endian.specs.Numbers.{Bytes}
+use Rattle.questions.specs.Record.{questionBytes, countOf}
 use Rattle.pages.specs.Lines.{page}
 use Rattle.pages.specs.Pages.{lineRoom, leftRoom}
 

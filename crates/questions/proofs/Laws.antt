@@ -1,32 +1,20 @@
 -- The laws of specs/Laws.antt, proved. Other crates see them as fields of question-laws.
 use mathlib.Core.Path.{_≡_, refl}
-use Prim.Native.Nat.{ℕ, _+_, _*_, _/_, _%_, _<_}
-use native.Mathlib.Nat.{mod-eq-of-lt, div-add-mod', div-div-eq-div-mul}
+use Prim.Native.Nat.{ℕ, _%_}
 use native.Mathlib.Omega.{arith}
 use mathlib.Core.Bool.{Bool, true, false, _&&_}
 use lib.Dec.{T, ltb}
 use borrow.Author.Tests.{ltb-true, lt-ltb, ne-eqb}
+use Rattle.little_endian.specs.Numbers.{number, fourBytes}
+use Rattle.little_endian.specs.Laws.{byteBound, numberBound}
+use Rattle.little_endian.proofs.Laws.{number-laws}
 use Rattle.questions.specs.declared.Reference.{Reference}
 use Rattle.questions.specs.declared.Reference.the-variants.{Missing, Price}
 use Rattle.questions.specs.Missing.{referenceOf, numberOf}
-use Rattle.questions.specs.Record.{number, fourBytes, codesOf, referencesOf, bytesOf}
-use Rattle.questions.specs.Laws.{byteBound, numberBound, isWritable, BytesDecode, areBytes, BytesFit, NumberReadsBack, QuestionLaws}
+use Rattle.questions.specs.Record.{codesOf, referencesOf, bytesOf}
+use Rattle.questions.specs.Laws.{isWritable, BytesDecode, areBytes, BytesFit, QuestionLaws}
 
--- digits to base 256, put together: x from a and its lowest digit, a from b, b from c
-together : (x a b c lowest second third : ℕ) → a * 256 + lowest ≡ x → b * 256 + second ≡ a → c * 256 + third ≡ b →
-    lowest + second * 256 + third * 65536 + c * 16777216 ≡ x
-together x a b c lowest second third e f g = omega arith
-
--- a number that fits is the number of its four bytes
-number-reads-back : NumberReadsBack
-number-reads-back x fits =
-    rw (mod-eq-of-lt {n = x / 16777216} {m = 256} (omega arith))
-    (together x (x / 256) (x / 65536) (x / 16777216) _ _ _
-    (div-add-mod' x 256)
-    (rw (div-div-eq-div-mul x 256 256) at (div-add-mod' (x / 256) 256))
-    (rw (div-div-eq-div-mul x 65536 256) at (div-add-mod' (x / 65536) 256)))
-
--- and so a reference is the reference of its four bytes
+-- a reference is the reference of its four bytes
 reference-back : (r : Reference) → T (isWritable r) → referenceOf (number 0 (fourBytes (numberOf r))) ≡ r
 reference-back Missing fits = refl
 reference-back (Price p) fits = go (ltb 0 p) (ltb p numberBound) refl refl fits
@@ -35,7 +23,7 @@ reference-back (Price p) fits = go (ltb 0 p) (ltb p numberBound) refl refl fits
         referenceOf (number 0 (fourBytes p)) ≡ Price p
     go true true a b fits =
         let positive = ltb-true 0 p a in
-        rw (number-reads-back p (ltb-true p numberBound b), ne-eqb p 0 (λ e. omega arith))
+        rw (number-laws .number-reads-back p (ltb-true p numberBound b), ne-eqb p 0 (λ e. omega arith))
     go true false a b fits = absurd fits
     go false small a b fits = absurd fits
 
@@ -43,7 +31,7 @@ bytes-decode : BytesDecode
 unfolding codesOf referencesOf bytesOf
 bytes-decode q fits =
     rw (
-      number-reads-back (q .price) (fits .price),
+      number-laws .number-reads-back (q .price) (fits .price),
       reference-back (q .references .«current_bid») (fits .current-bid),
       reference-back (q .references .«current_ask») (fits .current-ask),
       reference-back (q .references .«last_bid») (fits .last-bid),
@@ -69,4 +57,4 @@ bytes-fit q fits =
     )
 
 pub question-laws : QuestionLaws
-question-laws = record { number-reads-back = number-reads-back; bytes-decode = bytes-decode; bytes-fit = bytes-fit }
+question-laws = record { bytes-decode = bytes-decode; bytes-fit = bytes-fit }

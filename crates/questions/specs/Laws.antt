@@ -1,22 +1,17 @@
 -- The laws of a question's bytes. Each is a field of the record QuestionLaws at the end, which proofs/Laws.antt proves as question-laws:
 -- BytesDecode is the field bytes-decode.
 use mathlib.Core.Path.{_≡_}
-use Prim.Native.Nat.{ℕ, _<_}
+use Prim.Native.Nat.{_<_}
 use mathlib.Core.Bool.{Bool, true, _&&_}
 use mathlib.Core.List.{[], _∷_}
 use lib.Dec.{T, ltb}
+use Rattle.little_endian.specs.Numbers.{Bytes}
+use Rattle.little_endian.specs.Laws.{byteBound, numberBound}
 use Rattle.questions.specs.declared.Reference.{Reference}
 use Rattle.questions.specs.declared.Reference.the-variants.{Missing, Price}
 use Rattle.questions.specs.declared.Question.{Question}
 use Rattle.questions.specs.declared.Decoded.the-variants.{Asked}
-use Rattle.questions.specs.Record.{Bytes, number, fourBytes, decoded, bytesOf}
-
--- every byte is below 256, every number of four bytes below 256 * 256 * 256 * 256
-abbrev pub byteBound : ℕ
-byteBound = 256
-
-abbrev pub numberBound : ℕ
-numberBound = 4294967296
+use Rattle.questions.specs.Record.{decoded, bytesOf}
 
 -- a reference that four bytes can hold: it is missing, or a price above 0, since 0 means missing
 abbrev pub isWritable : Reference → Bool
@@ -39,10 +34,6 @@ pub record Fits (q : Question) : Type 0 where
   pub day-high : T (isWritable (q .references .«day_high»))
   pub nominal : T (isWritable (q .references .nominal))
 
--- A number that fits four bytes is read back from them.
-abbrev pub NumberReadsBack : Type 0
-NumberReadsBack = (x : ℕ) → x < numberBound → number 0 (fourBytes x) ≡ x
-
 -- The bytes of such a question are read back as that question: each has its bytes, so what is said of all bytes is said of each question.
 abbrev pub BytesDecode : Type 0
 BytesDecode = (q : Question) → Fits q → decoded (bytesOf q) ≡ Asked q
@@ -58,6 +49,5 @@ BytesFit = (q : Question) → Fits q → areBytes (bytesOf q) ≡ true
 -- ---- all of them
 
 pub record QuestionLaws : Type 0 where
-  pub number-reads-back : NumberReadsBack
   pub bytes-decode : BytesDecode
   pub bytes-fit : BytesFit

@@ -1,19 +1,16 @@
 -- A question from its 40 bytes, and its bytes. Document 01, "Question and answer".
-use Prim.Native.Nat.{ℕ, _+_, _*_, _/_, _%_}
+use Prim.Native.Nat.{ℕ, _*_, _/_}
 use mathlib.Core.Bool.{cond}
-use mathlib.Core.List.{List, [], _∷_, _++_}
+use mathlib.Core.List.{[], _∷_, _++_}
 use lib.Dec.{eqb}
 use lib.ListN.{length, getD, take, drop}
+use Rattle.little_endian.specs.Numbers.{Bytes, number, fourBytes}
 use Rattle.questions.specs.declared.Codes.{Codes}
 use Rattle.questions.specs.declared.References.{References}
 use Rattle.questions.specs.declared.Question.{Question}
 use Rattle.questions.specs.declared.Decoded.{Decoded}
 use Rattle.questions.specs.declared.Decoded.the-variants.{Asked, WrongLength}
 use Rattle.questions.specs.Missing.{referenceOf, numberOf}
-
--- bytes, each a number below 256
-abbrev pub Bytes : Type 0
-Bytes = List ℕ
 
 -- how many bytes a question has
 abbrev pub questionBytes : ℕ
@@ -25,14 +22,6 @@ countOf asked = asked / questionBytes
 
 abbrev pub questionAt : ℕ → Bytes → Bytes
 questionAt k s = take questionBytes (drop (k * questionBytes) s)
-
--- the 4-byte little-endian number from a byte on
-abbrev pub number : ℕ → Bytes → ℕ
-number at s = getD s at 0 + getD s (at + 1) 0 * 256 + getD s (at + 2) 0 * 65536 + getD s (at + 3) 0 * 16777216
-
--- the 4 bytes of a number, little-endian
-abbrev pub fourBytes : ℕ → Bytes
-fourBytes x = x % 256 ∷ x / 256 % 256 ∷ x / 65536 % 256 ∷ x / 16777216 % 256 ∷ []
 
 -- "Byte 0 is the side .. byte 1 the order type .. byte 2 the queue code .. byte 3 is zero."
 unfoldable pub codesOf : Bytes → Codes

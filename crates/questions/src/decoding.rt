@@ -5,13 +5,13 @@ use super::QUESTION_BYTES;
 use super::Question;
 use super::Reference;
 use super::References;
-use super::bytes;
 use super::missing;
 ghost use mathlib.Core.Path.{_≡_};
 ghost use Prim.Native.Nat.{_+_, _≤_};
 ghost use lib.ListN.{length};
+ghost use Rattle.little_endian.specs.Numbers.{number};
 ghost use Rattle.questions.specs.Missing.{referenceOf};
-ghost use Rattle.questions.specs.Record.{questionBytes, number, codesOf, referencesOf, decoded};
+ghost use Rattle.questions.specs.Record.{questionBytes, codesOf, referencesOf, decoded};
 
 fn codes_of(s: &[u8]) -> Codes
     requires { ⌜ length (now s) ≡ questionBytes ⌝ }
@@ -29,7 +29,7 @@ fn reference_at(s: &[u8], at: usize) -> Reference
     requires { ⌜ at + 4 ≤ length (now s) ⌝ }
     ensures { λ r. ⌜ r ≡ referenceOf (number at (now (s .entry))) ⌝ }
 {
-    missing::reference_of(bytes::number_at(s, at))
+    missing::reference_of(little_endian::number_at(s, at))
 }
 
 fn references_of(s: &[u8]) -> References
@@ -56,7 +56,7 @@ pub fn decode(s: &[u8]) -> Decoded
         return Decoded::WrongLength;
     }
     let codes = codes_of(s);
-    let price = bytes::number_at(s, 4);
+    let price = little_endian::number_at(s, 4);
     let references = references_of(s);
     Decoded::Asked(Question {
         codes,

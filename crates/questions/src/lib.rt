@@ -1,8 +1,8 @@
-// Questions: a question from its bytes, and the check of its references against the ladder.
+// Questions: a question from its bytes and its bytes again, and the check of its references against the ladder.
 //
 // Prices are whole mils. What the codes choose, and the checks that depend on it, are the crate `rules` above.
-mod bytes; // bytes.rt: little-endian numbers
 pub mod decoding; // decoding.rt: a question from its bytes
+pub mod encoding; // encoding.rt: the bytes of a question
 pub mod missing; // missing.rt: references, each a price or missing
 pub mod checks; // checks.rt: references off the ladder, and pairs of a low and a high
 

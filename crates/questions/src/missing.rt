@@ -2,7 +2,7 @@
 use super::Reference;
 use ladder::numbers;
 ghost use mathlib.Core.Path.{_≡_};
-ghost use Rattle.questions.specs.Missing.{referenceOf, present, isBelow, least, greatest, priceOr};
+ghost use Rattle.questions.specs.Missing.{referenceOf, numberOf, present, isBelow, least, greatest, priceOr};
 
 // The reference that a number stands for: 0 means missing.
 pub fn reference_of(number: u32) -> Reference
@@ -12,6 +12,16 @@ pub fn reference_of(number: u32) -> Reference
         return Reference::Missing;
     }
     Reference::Price(number)
+}
+
+// The number that a reference is written as: 0 where it is missing.
+pub fn number_of(reference: Reference) -> u32
+    ensures { λ r. ⌜ r ≡ numberOf reference ⌝ }
+{
+    match reference {
+        Reference::Missing => 0,
+        Reference::Price(price) => price,
+    }
 }
 
 // Whether a reference is a price.

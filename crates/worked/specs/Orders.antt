@@ -1,5 +1,6 @@
 -- An order with no reference, and the question that an order stands for.
 use Prim.Native.Nat.{ℕ}
+use Rattle.questions.specs.declared.References.{References}
 use Rattle.questions.specs.declared.Question.{Question}
 use Rattle.questions.specs.Missing.{referenceOf}
 use Rattle.worked.specs.declared.orders.Order.{Order}
@@ -16,21 +17,20 @@ bare side orderType queue =
       nominal = 0;
     }
 
+-- the references of an order
+abbrev pub references : Order → References
+references o =
+    record {
+      «current_bid» = referenceOf (o .current .bid);
+      «current_ask» = referenceOf (o .current .ask);
+      «last_bid» = referenceOf (o .last .bid);
+      «last_ask» = referenceOf (o .last .ask);
+      «previous_close» = referenceOf (o .close);
+      «day_low» = referenceOf (o .day .low);
+      «day_high» = referenceOf (o .day .high);
+      nominal = referenceOf (o .nominal);
+    }
+
 -- an order at a price, as a question
 abbrev pub asked : Order → ℕ → Question
-asked o price =
-    record {
-      codes = o .codes;
-      price = price;
-      references =
-          record {
-            «current_bid» = referenceOf (o .current .bid);
-            «current_ask» = referenceOf (o .current .ask);
-            «last_bid» = referenceOf (o .last .bid);
-            «last_ask» = referenceOf (o .last .ask);
-            «previous_close» = referenceOf (o .close);
-            «day_low» = referenceOf (o .day .low);
-            «day_high» = referenceOf (o .day .high);
-            nominal = referenceOf (o .nominal);
-          };
-    }
+asked o price = record { codes = o .codes; price = price; references = references o }

@@ -1,11 +1,13 @@
 // An order by its fields, and the bytes of the question that it stands for at a price.
 use questions::Codes;
 use questions::QUESTION_BYTES;
+use questions::Question;
+use questions::References;
+use questions::encoding;
+use questions::missing;
 ghost use mathlib.Core.Path.{_≡_};
-ghost use Prim.Native.Nat.{_+_, _≤_};
-ghost use lib.Seq.{sets};
-ghost use Rattle.questions.specs.Record.{questionBytes, fourBytes, bytesOf};
-ghost use Rattle.worked.specs.Orders.{bare, asked};
+ghost use Rattle.questions.specs.Record.{bytesOf};
+ghost use Rattle.worked.specs.Orders.{bare, references, asked};
 
 // A bid and an ask.
 pub(crate) struct Quotes {
@@ -113,34 +115,31 @@ impl Order {
     }
 }
 
-// Writes the 4 bytes of a number, the lowest first, from a byte on. (`sets s at part` is the list s with `part` stored from `at` on.)
-fn put(bytes: &mut [u8; QUESTION_BYTES], at: usize, number: u32)
-    requires { ⌜ at + 4 ≤ questionBytes ⌝ }
-    ensures { λ _. ⌜ now (bytes .exit) ≡ sets (now (bytes .entry)) at (fourBytes number) ⌝ }
+// The references of an order.
+fn references_of(order: Order) -> References
+    ensures { λ r. ⌜ r ≡ references order ⌝ }
 {
-    bytes[at] = (number % 256) as u8;
-    bytes[at + 1] = (number / 256 % 256) as u8;
-    bytes[at + 2] = (number / 65536 % 256) as u8;
-    bytes[at + 3] = (number / 16777216 % 256) as u8;
+    References {
+        current_bid: missing::reference_of(order.current.bid),
+        current_ask: missing::reference_of(order.current.ask),
+        last_bid: missing::reference_of(order.last.bid),
+        last_ask: missing::reference_of(order.last.ask),
+        previous_close: missing::reference_of(order.close),
+        day_low: missing::reference_of(order.day.low),
+        day_high: missing::reference_of(order.day.high),
+        nominal: missing::reference_of(order.nominal),
+    }
 }
 
 // The bytes of an order at a price, as a question.
 pub(crate) fn question(order: Order, price: u32) -> [u8; QUESTION_BYTES]
     ensures { λ r. ⌜ r ≡ bytesOf (asked order price) ⌝ }
 {
-    let mut bytes = [0u8; QUESTION_BYTES];
-    bytes[0] = order.codes.side;
-    bytes[1] = order.codes.order_type;
-    bytes[2] = order.codes.queue;
-    bytes[3] = order.codes.byte_3;
-    put(&mut bytes, 4, price);
-    put(&mut bytes, 8, order.current.bid);
-    put(&mut bytes, 12, order.current.ask);
-    put(&mut bytes, 16, order.last.bid);
-    put(&mut bytes, 20, order.last.ask);
-    put(&mut bytes, 24, order.close);
-    put(&mut bytes, 28, order.day.low);
-    put(&mut bytes, 32, order.day.high);
-    put(&mut bytes, 36, order.nominal);
-    bytes
+    let codes = order.codes;
+    let references = references_of(order);
+    encoding::encode(Question {
+        codes,
+        price,
+        references,
+    })
 }

@@ -1,6 +1,6 @@
 -- Three numbers, one after the other.
 use borrow.Author.Needs.{needs}
-use Rattle.questions.specs.Record.{fourBytes}
+use Rattle.little_endian.specs.Numbers.{fourBytes}
 use Rattle.batch.specs.Record.{encoded}
 use Rattle.batch.proofs.Parts.{three-parts}
 use Rattle.batch.proofs.encoding.encode.Statement.{statement}

@@ -1,0 +1,2 @@
+-- Laws: what other crates see.
+pub mod Laws
