@@ -17,6 +17,13 @@ enum plain_queue {
     PLAIN_SELL_ONLY,
     PLAIN_NEITHER
 };
+enum plain_kind {
+    PLAIN_BID = 1,
+    PLAIN_ASK,
+    PLAIN_NO_BUYERS,
+    PLAIN_NO_SELLERS,
+    PLAIN_TRADE
+};
 
 /* A question, read from its bytes. */
 struct plain_order {
@@ -52,5 +59,14 @@ bool plain_has_bid(const struct plain_order *order);
 bool plain_has_ask(const struct plain_order *order);
 bool plain_has_opposite(const struct plain_order *order);
 struct plain_range plain_order_range(const struct plain_order *order);
+
+/* plain_event.c */
+uint32_t plain_turned_away(struct plain_event event, uint32_t current_bid,
+                           uint32_t current_ask);
+
+/* plain_fill.c */
+uint8_t plain_queues(uint32_t current_bid, uint32_t current_ask);
+void plain_write(const struct plain_kept *kept, uint8_t queue,
+                 struct plain_asked asked, uint8_t question[40]);
 
 #endif
