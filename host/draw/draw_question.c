@@ -2,6 +2,7 @@
  * The draw of a question: codes, references that fit them, now and then a
  * fault, and last an order price chosen by the range that results.
  */
+#include "draw_order.h"
 #include "draw_price.h"
 #include "plain.h"
 
@@ -24,6 +25,14 @@ static void write_form(const struct form *form, uint8_t question[40])
         question[i] = form->code[i];
     for (uint32_t i = 0; i < 4 * FIELDS; i++)
         question[CODES + i] = (uint8_t)(form->field[i / 4] >> 8 * (i % 4));
+}
+
+/* A field of a question that is written as bytes. */
+static uint32_t field_of(const uint8_t question[40], uint32_t which)
+{
+    const uint8_t *byte = question + CODES + 4 * which;
+    return (uint32_t)byte[0] | (uint32_t)byte[1] << 8
+         | (uint32_t)byte[2] << 16 | (uint32_t)byte[3] << 24;
 }
 
 /* A special order without an opposite queue is refused whatever the rest. */
@@ -102,20 +111,24 @@ static uint32_t nine_fold_away(struct draw *draw, uint32_t price)
     return draw_beside(draw, draw_one_in(draw, 2) ? 9 * price : price / 9);
 }
 
-/* A nominal that puts an edge of the nine-fold rule at the range. */
-static void set_far_nominal(struct draw *draw, struct form *form)
+uint32_t draw_far_nominal(struct draw *draw, const uint8_t question[40])
 {
-    uint8_t question[40];
-    write_form(form, question);
     struct plain_answer range = plain_permitted(question);
     if (range.number != 0)
-        return;
+        return field_of(question, NOMINAL);
     uint32_t price = range.lowest;
     if (draw_one_in(draw, 3))
         price = range.highest;
     else if (draw_one_in(draw, 2))
         price = draw_between(draw, range.lowest, range.highest);
-    form->field[NOMINAL] = nine_fold_away(draw, price);
+    return nine_fold_away(draw, price);
+}
+
+static void set_far_nominal(struct draw *draw, struct form *form)
+{
+    uint8_t question[40];
+    write_form(form, question);
+    form->field[NOMINAL] = draw_far_nominal(draw, question);
 }
 
 /* One code that is unknown, or byte 3 not zero. */
@@ -183,24 +196,22 @@ static void put_fault(struct draw *draw, struct form *form)
 
 /* A price at an end of either range, at an edge of the nine-fold rule, or
  * at a reference, then shifted a little or not at all. */
-static uint32_t price_at_edge(struct draw *draw, const struct form *form,
+static uint32_t price_at_edge(struct draw *draw, const uint8_t question[40],
                               struct plain_answer permitted,
                               struct plain_answer shown)
 {
     uint32_t against =
-        form->field[form->code[QUEUE] == OPENING ? CLOSE : NOMINAL];
+        field_of(question, question[QUEUE] == OPENING ? CLOSE : NOMINAL);
     uint32_t edge[7] = {
         permitted.lowest, permitted.highest, shown.lowest, shown.highest,
         9 * against, against / 9,
-        form->field[BID + draw_below(draw, FIELDS - BID)],
+        field_of(question, BID + draw_below(draw, FIELDS - BID)),
     };
     return draw_shifted(draw, edge[draw_below(draw, 7)]);
 }
 
-static uint32_t order_price(struct draw *draw, const struct form *form)
+uint32_t draw_order_price(struct draw *draw, const uint8_t question[40])
 {
-    uint8_t question[40];
-    write_form(form, question);
     struct plain_answer permitted = plain_permitted(question);
     struct plain_answer shown = plain_question(question);
 
@@ -212,7 +223,14 @@ static uint32_t order_price(struct draw *draw, const struct form *form)
         return draw_between(draw, permitted.lowest, permitted.highest);
     if (shown.lowest != 0 && draw_one_in(draw, 5))
         return draw_between(draw, shown.lowest, shown.highest);
-    return price_at_edge(draw, form, permitted, shown);
+    return price_at_edge(draw, question, permitted, shown);
+}
+
+static void set_order_price(struct draw *draw, struct form *form)
+{
+    uint8_t question[40];
+    write_form(form, question);
+    form->field[PRICE] = draw_order_price(draw, question);
 }
 
 static void draw_random_bytes(struct draw *draw, uint8_t question[40])
@@ -236,6 +254,6 @@ void draw_question(struct draw *draw, uint8_t question[40])
         put_fault(draw, &form);
     if (draw_one_in(draw, 12))
         put_fault(draw, &form);
-    form.field[PRICE] = order_price(draw, &form);
+    set_order_price(draw, &form);
     write_form(&form, question);
 }
