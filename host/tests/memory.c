@@ -2,29 +2,14 @@
  * Memory: no byte is read or written beside those that are handed over, at any
  * alignment, and none at all where the length is 0.
  */
-#define _DEFAULT_SOURCE
-#include <stdlib.h>
 #include <string.h>
-#include <sys/mman.h>
-#include <unistd.h>
 
 #include "draw.h"
+#include "guarded.h"
 #include "report.h"
 #include "tests.h"
 
-enum { BYTES = 1 << 16 }; /* a multiple of the size of a page */
-
-/* BYTES bytes between two pages that fault when touched. */
-static uint8_t *guarded(void)
-{
-    size_t page = (size_t)sysconf(_SC_PAGESIZE);
-    uint8_t *all = mmap(NULL, BYTES + 2 * page, PROT_READ | PROT_WRITE,
-                        MAP_PRIVATE | MAP_ANONYMOUS, -1, 0);
-    if (all == MAP_FAILED || mprotect(all, page, PROT_NONE) != 0
-        || mprotect(all + page + BYTES, page, PROT_NONE) != 0)
-        abort();
-    return all + page;
-}
+enum { BYTES = GUARDED_BYTES };
 
 /* Judges n questions that stand there, into a buffer of just their size. */
 static void judge(const uint8_t *questions, size_t n, uint8_t *answers)
