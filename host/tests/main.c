@@ -12,5 +12,7 @@ int main(void)
     test_judging();
     test_batches();
     test_memory();
+    test_days();
+    test_fills();
     return report_finish();
 }

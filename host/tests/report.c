@@ -7,6 +7,7 @@
 #include <stdarg.h>
 #include <stdbool.h>
 #include <stdio.h>
+#include <string.h>
 
 enum { PRINTED = 5 }; /* faults of a test that are printed */
 
@@ -112,6 +113,80 @@ void report_trade(const uint32_t fields[6], struct hendovita_answer found,
         printf(", %s %" PRIu32, names[i], fields[i]);
     printf("\n");
     print_answers(found, due);
+}
+
+enum { KEPT = 11 };
+
+static void numbers_found(const struct hendovita_day *day, uint32_t to[KEPT])
+{
+    to[0] = day->previous_close;
+    to[1] = day->current_bid;
+    to[2] = day->current_ask;
+    to[3] = day->last_bid;
+    to[4] = day->last_ask;
+    to[5] = day->lowest_bid;
+    to[6] = day->highest_bid;
+    to[7] = day->lowest_ask;
+    to[8] = day->highest_ask;
+    to[9] = day->day_low;
+    to[10] = day->day_high;
+}
+
+static void numbers_due(const struct plain_kept *kept, uint32_t to[KEPT])
+{
+    to[0] = kept->previous_close;
+    to[1] = kept->current_bid;
+    to[2] = kept->current_ask;
+    to[3] = kept->last_bid;
+    to[4] = kept->last_ask;
+    to[5] = kept->lowest_bid;
+    to[6] = kept->highest_bid;
+    to[7] = kept->lowest_ask;
+    to[8] = kept->highest_ask;
+    to[9] = kept->day_low;
+    to[10] = kept->day_high;
+}
+
+static void print_kept(const uint32_t found[KEPT], const uint32_t due[KEPT])
+{
+    static const char *const names[KEPT] = {
+        "previous close", "current bid", "current ask", "last bid",
+        "last ask", "lowest bid", "highest bid", "lowest ask", "highest ask",
+        "day low", "day high",
+    };
+    for (int i = 0; i < KEPT; i++)
+        if (found[i] != due[i])
+            printf("  %s: found %" PRIu32 ", due %" PRIu32 "\n", names[i],
+                   found[i], due[i]);
+}
+
+void report_entered(const char *how, struct plain_event event,
+                    struct hendovita_entered found, uint32_t number,
+                    const struct plain_kept *due)
+{
+    uint32_t kept[2][KEPT];
+    numbers_found(&found.day, kept[0]);
+    numbers_due(due, kept[1]);
+    if (found.number == number && memcmp(kept[0], kept[1], sizeof *kept) == 0)
+        return;
+    if (!is_printed())
+        return;
+    printf("  %s: kind %" PRIu32 ", price %" PRIu32 ": found %" PRIu32
+           ", due %" PRIu32 "\n", how, event.kind, event.price, found.number,
+           number);
+    print_kept(kept[0], kept[1]);
+    fflush(stdout);
+}
+
+void report_filled(const char *how, const uint8_t found[40],
+                   const uint8_t due[40])
+{
+    if (memcmp(found, due, 40) == 0 || !is_printed())
+        return;
+    for (int i = 0; i < 40; i++)
+        if (found[i] != due[i])
+            printf("  %s: byte %d is %u, due %u\n", how, i, found[i], due[i]);
+    fflush(stdout);
 }
 
 int report_finish(void)

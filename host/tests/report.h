@@ -25,6 +25,16 @@ void report_question(const char *how, const uint8_t question[40],
 void report_trade(const uint32_t fields[6], struct hendovita_answer found,
                   struct plain_answer due);
 
+/* A fault unless number and day are those that are due: it prints the event,
+ * how it came, and each number that differs. */
+void report_entered(const char *how, struct plain_event event,
+                    struct hendovita_entered found, uint32_t number,
+                    const struct plain_kept *due);
+
+/* A fault unless the 40 bytes are those that are due. */
+void report_filled(const char *how, const uint8_t found[40],
+                   const uint8_t due[40]);
+
 /* Ends the run: prints how many passed and failed. 0 if none failed. */
 int report_finish(void);
 
