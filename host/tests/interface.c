@@ -28,7 +28,13 @@ static const struct {
     {9, HENDOVITA_ABOVE_HIGHEST, "price above the permitted highest"},
     {10, HENDOVITA_NINE_FOLD,
      "price nine times its reference or more, or a ninth or less"},
-    {11, 11, "no answer number"},
+    {11, HENDOVITA_UNKNOWN_EVENT,
+     "event kind unknown, or a price with an empty queue"},
+    {12, HENDOVITA_OFF_LADDER,
+     "price of an event, or previous close, that is no ladder price"},
+    {13, HENDOVITA_QUOTES_CROSS,
+     "bid not below the current ask, or ask not above the current bid"},
+    {14, 14, "no answer number"},
     {UINT32_MAX, UINT32_MAX, "no answer number"},
 };
 
@@ -45,7 +51,7 @@ static void test_numbers(void)
 
 static void test_codes(void)
 {
-    report_begin("codes and sizes are those of the record");
+    report_begin("codes, kinds of events and sizes are those of the paper");
     report_same("buy", HENDOVITA_BUY, 1);
     report_same("sell", HENDOVITA_SELL, 2);
     report_same("limit", HENDOVITA_LIMIT, 1);
@@ -56,6 +62,11 @@ static void test_codes(void)
     report_same("buy queue only", HENDOVITA_BUY_QUEUE_ONLY, 3);
     report_same("sell queue only", HENDOVITA_SELL_QUEUE_ONLY, 4);
     report_same("neither queue", HENDOVITA_NEITHER_QUEUE, 5);
+    report_same("best bid", HENDOVITA_BEST_BID, 1);
+    report_same("best ask", HENDOVITA_BEST_ASK, 2);
+    report_same("buy queue empty", HENDOVITA_BUY_QUEUE_EMPTY, 3);
+    report_same("sell queue empty", HENDOVITA_SELL_QUEUE_EMPTY, 4);
+    report_same("System trade", HENDOVITA_SYSTEM_TRADE, 5);
     report_same("question bytes", HENDOVITA_QUESTION_BYTES, 40);
     report_same("answer bytes", HENDOVITA_ANSWER_BYTES, 12);
     report_same("most questions", HENDOVITA_MOST_QUESTIONS, 1000);
