@@ -20,10 +20,19 @@ int main()
         hendovita_judge_question(question, sizeof question);
     const hendovita_answer trade =
         hendovita_judge_trade(9503, 10000, 9600, 9800, 10300, 10600);
+    const hendovita_entered fresh = hendovita_open_day(20000);
+    const hendovita_entered quoted =
+        hendovita_enter_event(fresh.day, HENDOVITA_BEST_BID, 19890);
+    const uint32_t filled = hendovita_fill_question(
+        quoted.day, HENDOVITA_BUY, HENDOVITA_LIMIT, 19890, 0, question,
+        sizeof question);
     const bool right = batch.number == HENDOVITA_ACCEPTED && batch.count == 1
         && hendovita_get_answer(answer).lowest == 18900
         && one.lowest == 18900 && one.highest == 19900
         && trade.number == HENDOVITA_ACCEPTED && trade.lowest == 9500
+        && fresh.day.previous_close == 20000 && quoted.day.last_bid == 19890
+        && filled == HENDOVITA_ACCEPTED
+        && question[2] == HENDOVITA_BUY_QUEUE_ONLY
         && hendovita_up(500, 24).price == 740
         && !hendovita_place_of(20050).found
         && hendovita_lower_limit(20200).price == 19190;
