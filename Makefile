@@ -6,7 +6,7 @@
 
 PREFIX = /usr/local
 DESTDIR =
-VERSION = 1.0.0
+VERSION = 1.1.0
 
 CFLAGS = -O2
 STRICT = -std=c11 -Wall -Wextra -Wpedantic -Wconversion -Werror
@@ -50,8 +50,8 @@ $(LINES): build/%: host/lines/%.c $(PLAIN) $(PLAIN_HEADERS)
 	mkdir -p build
 	$(CC) $(STRICT) $(CFLAGS) $(INCLUDES) $< $(PLAIN) -o $@
 
-build/gateway: $(LIBRARY) $(HEADER) examples/gateway.c
-	$(CC) $(STRICT) $(CFLAGS) -Iinclude examples/gateway.c $(LIBRARY) -o $@
+build/gateway build/feed: build/%: examples/%.c $(LIBRARY) $(HEADER)
+	$(CC) $(STRICT) $(CFLAGS) -Iinclude $< $(LIBRARY) -o $@
 
 build/bench: $(LIBRARY) $(HEADER) $(wildcard bench/*.c bench/*.h) $(PLAIN) $(PLAIN_HEADERS)
 	$(CC) $(STRICT) -O3 $(INCLUDES) bench/bench.c bench/programs.c bench/mixes.c bench/quick.c $(PLAIN) $(LIBRARY) -o $@
@@ -60,7 +60,7 @@ build/quickcheck: bench/quickcheck.c bench/quick.c bench/quick.h
 	mkdir -p build
 	$(CC) $(STRICT) -O3 bench/quickcheck.c bench/quick.c -o $@
 
-check: all build/host-tests build/gateway $(LINES) build/bench build/quickcheck
+check: all build/host-tests build/gateway build/feed $(LINES) build/bench build/quickcheck
 	host/run
 
 demo: all
