@@ -18,6 +18,7 @@ PLAIN = $(wildcard host/plain/*.c host/draw/*.c)
 PLAIN_HEADERS = $(wildcard host/plain/*.h host/draw/*.h)
 TESTS = $(wildcard host/tests/*.c)
 ASK = $(wildcard tools/*.c)
+BENCH = $(addprefix bench/, bench.c programs.c days.c mixes.c quick.c quick_day.c)
 LINES = build/plaincheck build/drawn build/dribble build/breaks build/memory
 INCLUDES = -Iinclude -Ihost/plain -Ihost/draw
 
@@ -53,10 +54,10 @@ $(LINES): build/%: host/lines/%.c $(PLAIN) $(PLAIN_HEADERS)
 build/gateway build/feed: build/%: examples/%.c $(LIBRARY) $(HEADER)
 	$(CC) $(STRICT) $(CFLAGS) -Iinclude $< $(LIBRARY) -o $@
 
-build/bench: $(LIBRARY) $(HEADER) $(wildcard bench/*.c bench/*.h) $(PLAIN) $(PLAIN_HEADERS)
-	$(CC) $(STRICT) -O3 $(INCLUDES) bench/bench.c bench/programs.c bench/mixes.c bench/quick.c $(PLAIN) $(LIBRARY) -o $@
+build/bench: $(LIBRARY) $(HEADER) $(BENCH) $(wildcard bench/*.h) $(PLAIN) $(PLAIN_HEADERS)
+	$(CC) $(STRICT) -O3 $(INCLUDES) $(BENCH) $(PLAIN) $(LIBRARY) -o $@
 
-build/quickcheck: bench/quickcheck.c bench/quick.c bench/quick.h
+build/quickcheck: bench/quickcheck.c bench/quick.c bench/quick.h bench/quick_parts.h
 	mkdir -p build
 	$(CC) $(STRICT) -O3 bench/quickcheck.c bench/quick.c -o $@
 

@@ -1,7 +1,7 @@
 /*
  * Speed: the library's batch against a plain C judge written for speed, on the
- * same questions, turn by turn in one run, of each the best round; and the
- * program likewise.
+ * same questions, turn by turn in one run, of each the best round; and the day
+ * book and the program likewise.
  */
 #define _POSIX_C_SOURCE 199309L
 #include <stdio.h>
@@ -9,6 +9,7 @@
 #include <string.h>
 
 #include "clock.h"
+#include "days.h"
 #include "hendovita.h"
 #include "mixes.h"
 #include "plain.h"
@@ -104,11 +105,26 @@ static void run(const char *name,
     }
 }
 
+static void run_days(void)
+{
+    static const char head[] = "                library      plain C   ratio\n"
+                               "               M/s    ns    M/s    ns\n";
+    const struct day_mix usual = {"usual", mix_usual_event, mix_usual_order};
+    const struct day_mix any = {"random", mix_random_event, mix_random_order};
+    printf("events of a day, one after another\n%s", head);
+    time_events(usual);
+    time_events(any);
+    printf("a question filled from a day and judged\n%s", head);
+    time_fills(usual);
+    time_fills(any);
+}
+
 int main(void)
 {
     plain_begin();
     run("usual orders over 0.50 to 50", mix_usual);
     run("random over the whole ladder, a fifth damaged", mix_random);
+    run_days();
     printf("the program, from a file of questions to lines\n"
            "             pricecheck      plain C   ratio\n"
            "               M/s    ns    M/s    ns\n");

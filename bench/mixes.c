@@ -1,11 +1,10 @@
 /*
- * The two mixes of questions that are timed.
+ * The two mixes that are timed.
  */
 #include "mixes.h"
 
-#include "draw_price.h"
+#include "draw_event.h"
 #include "hendovita.h"
-#include "plain.h"
 
 /* A ladder price at most so many spreads away. */
 static uint32_t near(struct draw *draw, uint32_t price, uint32_t spreads)
@@ -87,4 +86,70 @@ void mix_random(struct draw *draw, uint8_t question[40])
     hendovita_put_question(question, &q);
     if (draw_one_in(draw, 5))
         question[draw_below(draw, 40)] ^= (uint8_t)(1 + draw_below(draw, 255));
+}
+
+/* A price of the day, from which the next ones are not far. */
+static uint32_t where(const struct plain_kept *kept)
+{
+    if (kept->current_bid != 0)
+        return kept->current_bid;
+    return kept->current_ask != 0 ? kept->current_ask : kept->previous_close;
+}
+
+static uint32_t usual_bid(struct draw *draw, const struct plain_kept *kept)
+{
+    if (kept->current_ask != 0)
+        return plain_down(kept->current_ask, 1 + draw_below(draw, 3));
+    return near(draw, where(kept), 2);
+}
+
+static uint32_t usual_ask(struct draw *draw, const struct plain_kept *kept)
+{
+    if (kept->current_bid != 0)
+        return plain_up(kept->current_bid, 1 + draw_below(draw, 3));
+    return near(draw, where(kept), 2);
+}
+
+struct plain_event mix_usual_event(struct draw *draw,
+                                   const struct plain_kept *kept)
+{
+    struct plain_event event = {HENDOVITA_SYSTEM_TRADE, where(kept)};
+    if (draw_one_in(draw, 10))
+        return event;
+    event.kind = 1 + draw_below(draw, 2);
+    event.price = event.kind == HENDOVITA_BEST_BID ? usual_bid(draw, kept)
+                                                   : usual_ask(draw, kept);
+    if (draw_one_in(draw, 50)) {
+        event.kind = 3 + draw_below(draw, 2);
+        event.price = 0;
+    }
+    return event;
+}
+
+struct plain_asked mix_usual_order(struct draw *draw,
+                                   const struct plain_kept *kept)
+{
+    struct plain_asked asked = {0};
+    asked.side = (uint8_t)(1 + draw_below(draw, 2));
+    asked.type = draw_one_in(draw, 4) ? HENDOVITA_ENHANCED_LIMIT
+                                      : HENDOVITA_LIMIT;
+    asked.price = asked.side == HENDOVITA_BUY
+        ? plain_down(where(kept), draw_below(draw, 26))
+        : plain_up(where(kept), draw_below(draw, 26));
+    asked.nominal = near(draw, where(kept), 2);
+    return asked;
+}
+
+static const struct draw_span everywhere = {PLAIN_FIRST, PLAIN_LAST};
+
+struct plain_event mix_random_event(struct draw *draw,
+                                    const struct plain_kept *kept)
+{
+    return draw_event(draw, everywhere, kept);
+}
+
+struct plain_asked mix_random_order(struct draw *draw,
+                                    const struct plain_kept *kept)
+{
+    return draw_asked(draw, everywhere, kept);
 }

@@ -1,6 +1,6 @@
 /*
- * The two mixes of questions that are timed. The same seed gives the same
- * questions.
+ * The two mixes that are timed, of questions, and of events with orders between
+ * them. The same seed gives the same mix.
  */
 #ifndef MIXES_H
 #define MIXES_H
@@ -8,6 +8,7 @@
 #include <stdint.h>
 
 #include "draw.h"
+#include "plain.h"
 
 /*
  * An order as they mostly come in: a price over 0.50 to 50 with bid and ask a
@@ -22,5 +23,21 @@ void mix_usual(struct draw *draw, uint8_t question[40]);
  * price anywhere on it; a fifth of the questions is damaged.
  */
 void mix_random(struct draw *draw, uint8_t question[40]);
+
+/*
+ * An event as they mostly come: a bid or an ask a few spreads from the other
+ * one, now and then a trade at one of them, seldom an empty queue. All are
+ * accepted. An order is near the quotes, as those of mix_usual.
+ */
+struct plain_event mix_usual_event(struct draw *draw,
+                                   const struct plain_kept *kept);
+struct plain_asked mix_usual_order(struct draw *draw,
+                                   const struct plain_kept *kept);
+
+/* Anything: as in the host tests, over the whole ladder. */
+struct plain_event mix_random_event(struct draw *draw,
+                                    const struct plain_kept *kept);
+struct plain_asked mix_random_order(struct draw *draw,
+                                    const struct plain_kept *kept);
 
 #endif
