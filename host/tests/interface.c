@@ -29,11 +29,11 @@ static const struct {
     {10, HENDOVITA_NINE_FOLD,
      "price nine times its reference or more, or a ninth or less"},
     {11, HENDOVITA_UNKNOWN_EVENT,
-     "event kind unknown, or a price with an empty queue"},
+     "event kind unknown, or a price with an emptied queue"},
     {12, HENDOVITA_OFF_LADDER,
      "price of an event, or previous close, that is no ladder price"},
     {13, HENDOVITA_QUOTES_CROSS,
-     "bid not below the current ask, or ask not above the current bid"},
+     "bid not below current ask, or ask not above current bid"},
     {14, 14, "no answer number"},
     {UINT32_MAX, UINT32_MAX, "no answer number"},
 };
