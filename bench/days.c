@@ -1,7 +1,6 @@
 /*
- * Speed of the day book: the library's against a plain C one that changes the
- * day in place (quick_day.c), on the same events, turn by turn in one run. Of
- * each the best round counts.
+ * Speed of the day book: the library's against a plain C one (quick_day.c), on
+ * the same events, turn by turn in one run. Of each the best round counts.
  */
 #define _POSIX_C_SOURCE 199309L
 #include "days.h"
@@ -60,11 +59,11 @@ static double events_library(void)
 static double events_quick(void)
 {
     double begin = now();
-    struct quick_day day;
-    quick_open_day(&day, CLOSE);
-    for (size_t k = 0; k < EVENTS; k++)
-        numbers[1][k] =
-            quick_enter_event(&day, events[k].kind, events[k].price);
+    struct quick_entered after = quick_open_day(CLOSE);
+    for (size_t k = 0; k < EVENTS; k++) {
+        after = quick_enter_event(after.day, events[k].kind, events[k].price);
+        numbers[1][k] = after.number;
+    }
     return now() - begin;
 }
 
@@ -102,7 +101,7 @@ static double fills_quick(void)
     for (size_t k = 0; k < EVENTS; k++) {
         struct plain_asked order = orders[k];
         uint8_t question[40];
-        if (quick_fill_question(&quick_days[k], order.side, order.type,
+        if (quick_fill_question(quick_days[k], order.side, order.type,
                                 order.price, order.nominal, question,
                                 sizeof question) == 0)
             judged += quick_judge_batch(question, sizeof question,
@@ -127,17 +126,15 @@ static void same(const void *library, const void *quick, size_t bytes)
 static void compare(void)
 {
     struct hendovita_entered after = hendovita_open_day(CLOSE);
-    struct quick_day day;
-    uint32_t number = quick_open_day(&day, CLOSE);
-    same(&after.number, &number, sizeof number);
+    struct quick_entered quick = quick_open_day(CLOSE);
+    same(&after, &quick, sizeof after);
     for (size_t k = 0; k < EVENTS; k++) {
         after = hendovita_enter_event(after.day, events[k].kind,
                                       events[k].price);
-        number = quick_enter_event(&day, events[k].kind, events[k].price);
-        same(&after.number, &number, sizeof number);
-        same(&after.day, &day, sizeof day);
+        quick = quick_enter_event(quick.day, events[k].kind, events[k].price);
+        same(&after, &quick, sizeof after);
         days[k] = after.day;
-        quick_days[k] = day;
+        quick_days[k] = quick.day;
     }
     fills_library();
     fills_quick();

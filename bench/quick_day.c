@@ -8,11 +8,10 @@
 
 enum { BEST_BID = 1, BEST_ASK, BUY_EMPTY, SELL_EMPTY, TRADE };
 
-uint32_t quick_open_day(struct quick_day *day, uint32_t close)
+struct quick_entered quick_open_day(uint32_t close)
 {
     bool off = close != 0 && !on_ladder(close);
-    *day = (struct quick_day){.close = off ? 0 : close};
-    return off ? 12 : 0;
+    return (struct quick_entered){off ? 12 : 0, {.close = off ? 0 : close}};
 }
 
 static inline uint32_t enter_bid(struct quick_day *day, uint32_t price)
@@ -57,8 +56,8 @@ static inline uint32_t empty(uint32_t *current, uint32_t price)
     return 0;
 }
 
-uint32_t quick_enter_event(struct quick_day *day, uint32_t kind,
-                           uint32_t price)
+static inline uint32_t enter(struct quick_day *day, uint32_t kind,
+                             uint32_t price)
 {
     switch (kind) {
     case BEST_BID:
@@ -76,6 +75,14 @@ uint32_t quick_enter_event(struct quick_day *day, uint32_t kind,
     }
 }
 
+struct quick_entered quick_enter_event(struct quick_day day, uint32_t kind,
+                                       uint32_t price)
+{
+    struct quick_entered after = {0, day};
+    after.number = enter(&after.day, kind, price);
+    return after;
+}
+
 static inline uint8_t queue_code(const struct quick_day *day)
 {
     if ((day->last_bid | day->last_ask) == 0)
@@ -85,24 +92,24 @@ static inline uint8_t queue_code(const struct quick_day *day)
     return day->ask != 0 ? SELL_ONLY : NEITHER;
 }
 
-uint32_t quick_fill_question(const struct quick_day *day, uint8_t side,
-                             uint8_t type, uint32_t price, uint32_t nominal,
+uint32_t quick_fill_question(struct quick_day day, uint8_t side, uint8_t type,
+                             uint32_t price, uint32_t nominal,
                              uint8_t *question, size_t len)
 {
     if (len != 40)
         return 1;
     question[0] = side;
     question[1] = type;
-    question[2] = queue_code(day);
+    question[2] = queue_code(&day);
     question[3] = 0;
     put(question + 4, price);
-    put(question + 8, day->bid);
-    put(question + 12, day->ask);
-    put(question + 16, day->last_bid);
-    put(question + 20, day->last_ask);
-    put(question + 24, day->close);
-    put(question + 28, day->day_low);
-    put(question + 32, day->day_high);
+    put(question + 8, day.bid);
+    put(question + 12, day.ask);
+    put(question + 16, day.last_bid);
+    put(question + 20, day.last_ask);
+    put(question + 24, day.close);
+    put(question + 28, day.day_low);
+    put(question + 32, day.day_high);
     put(question + 36, nominal);
     return 0;
 }
