@@ -1,15 +1,15 @@
 -- The day by events is the day by the list of those that are accepted.
 use mathlib.Core.Path.{_≡_, refl}
 use Prim.Native.Nat.{ℕ}
-use mathlib.Core.Bool.{Bool, true, false, cond, _||_, or-true}
+use mathlib.Core.Bool.{Bool, true, false, cond}
 use mathlib.Core.List.{[], _∷_}
 use lib.Dec.{eqb}
 use Rattle.ladder.specs.Ladder.{Prices}
 use Rattle.questions.specs.declared.Reference.{Reference}
 use Rattle.questions.specs.declared.Reference.the-variants.{Missing, Price}
-use Rattle.questions.specs.Missing.{present, least, greatest}
-use Rattle.daybook.specs.Events.{Event, Queue, Buy, Sell, bestOf, emptyOf, bestBid, bestAsk, systemTrade, History}
-use Rattle.daybook.specs.Kept.{currentOf, lastOf, lowestOf, highestOf, anyQuote}
+use Rattle.questions.specs.Missing.{least, greatest}
+use Rattle.daybook.specs.Events.{Event, Queue, Buy, Sell, bestOf, emptyOf, systemTrade, History}
+use Rattle.daybook.specs.Kept.{currentOf, lastOf, lowestOf, highestOf}
 use Rattle.daybook.specs.Accepted.{numberAfter, with, accepted}
 use Rattle.daybook.specs.Days.{quotesIn, tradedIn, dayOf, takenClose, opened, quoted, emptied, quotesAfter, tradedAt, tradedAfter, dayAfter, entered, played}
 
@@ -54,23 +54,13 @@ followed l close (e ∷ earlier) = step (played l close earlier) (followed l clo
   where
     c : Reference
     c = takenClose l close
+
     h : History
     h = accepted l earlier
+
     go : (accepted : Bool) → cond accepted (dayAfter e (dayOf c h)) (dayOf c h) ≡ dayOf c (cond accepted (e ∷ h) h)
     go true = day-follows c e h
     go false = refl
+
     step : (d : _) → d ≡ dayOf c h → entered l d e .day ≡ dayOf c (with l e h)
     step d same = rw same (go (eqb (numberAfter l h e) 0))
-
--- there is a last bid or a last ask exactly where one was accepted
-pub any-last : (h : History) → (present (lastOf bestBid h) || present (lastOf bestAsk h)) ≡ anyQuote h
-unfolding lastOf anyQuote
-any-last [] = refl
-any-last (e ∷ h) = go (eqb (e .kind) bestBid) (eqb (e .kind) bestAsk) (any-last h)
-  where
-    go : (bid ask : Bool) → (present (lastOf bestBid h) || present (lastOf bestAsk h)) ≡ anyQuote h →
-        (present (cond bid (Price (e .price)) (lastOf bestBid h)) || present (cond ask (Price (e .price)) (lastOf bestAsk h))) ≡
-        (bid || ask || anyQuote h)
-    go true ask before = refl
-    go false true before = or-true (present (lastOf bestBid h))
-    go false false before = before

@@ -1,8 +1,4 @@
--- Following: the day by events is the day by their list. Sound: what holds of every day that events lead to. Filled: what a question filled
--- from such a day is answered. Numbers: the day as plain
--- numbers. Laws: what other crates see.
+-- Following: the day by events is the day by their list. Order: every day that events lead to is in order. Laws: what other crates see.
 pub mod Following
-pub mod Sound
-pub mod Filled
-pub mod Numbers
+pub mod Order
 pub mod Laws

@@ -1,24 +1,16 @@
-// The day book of one security: events in, the day that they leave, and questions filled from it.
+// The day book of one security: events in, and the day that they leave.
 //
-// A day is a struct by value. It keeps what document 01's questions and trades ask for, so that nobody fills references by hand: a question
-// filled from a day that events led to is never refused for references that disagree. Prices are whole mils; the ladder is that of Phase 1.
+// A day is a struct by value. It keeps the references that questions and off-System trades ask for, so that nobody fills them in by hand: the
+// crate `dayquestion` fills a question from it, `daynumbers` has it as plain numbers. Prices are whole mils; the ladder is that of Phase 1.
 mod acceptance; // acceptance.rt: the tests that turn an event away
 mod keeping; // keeping.rt: what an event makes of the prices that are kept
-mod filling; // filling.rt: the queue code and the references of a day, for a question
-pub mod flat; // flat.rt: a day as plain numbers
 
-use judging::answers::WRONG_LENGTH;
-use questions::Codes;
-use questions::QUESTION_BYTES;
-use questions::Question;
 use questions::Reference;
-use questions::encoding;
 ghost use mathlib.Core.Path.{_≡_};
 ghost use Rattle.ladder.specs.Bands.{phase1};
 ghost use Rattle.ladder.specs.Ladder.{ladder};
 ghost use Rattle.daybook.specs.Events.{event, bestBid, bestAsk, buyQueueEmpty, sellQueueEmpty, systemTrade};
 ghost use Rattle.daybook.specs.Days.{opened, entered};
-ghost use Rattle.daybook.specs.Filling.{questionFrom, fillNumber, filled};
 
 // What is kept of the bids, or of the asks: the current one, which is missing where the queue is empty; the last one, which the current one
 // is too; the lowest and the highest so far.
@@ -47,36 +39,6 @@ pub struct Day {
 pub struct Entered {
     pub number: u32,
     pub day: Day,
-}
-
-// What the caller gives of a question; the rest comes from the day. A nominal price of 0 is missing.
-pub struct Order {
-    pub side: u8,
-    pub order_type: u8,
-    pub price: u32,
-    pub nominal: u32,
-}
-
-// A day as plain numbers, 0 where there is none.
-#[repr(C)]
-pub struct FlatDay {
-    pub previous_close: u32,
-    pub current_bid: u32,
-    pub current_ask: u32,
-    pub last_bid: u32,
-    pub last_ask: u32,
-    pub lowest_bid: u32,
-    pub highest_bid: u32,
-    pub lowest_ask: u32,
-    pub highest_ask: u32,
-    pub day_low: u32,
-    pub day_high: u32,
-}
-
-#[repr(C)]
-pub struct FlatEntered {
-    pub number: u32,
-    pub day: FlatDay,
 }
 
 // The numbers of events that are turned away: an unknown kind, or a price with an emptied queue; a price off the ladder, or a close; a bid not
@@ -202,36 +164,5 @@ impl Day {
             5 => self.system_trade(price),
             0 | 6..=4294967295 => self.turned_away(UNKNOWN_EVENT),
         }
-    }
-
-    // The question of an order, filled from the day.
-    pub fn question(self, order: Order) -> Question
-        ensures { λ r. ⌜ r ≡ questionFrom self order ⌝ }
-    {
-        let codes = Codes {
-            side: order.side,
-            order_type: order.order_type,
-            queue: filling::queue_code_of(self),
-            byte_3: 0,
-        };
-        let references = filling::references_from(self, order.nominal);
-        Question {
-            codes,
-            price: order.price,
-            references,
-        }
-    }
-
-    // The same as bytes. A slice that has not as many bytes as a question gets 1, and keeps every byte.
-    pub fn fill(self, order: Order, question: &mut [u8]) -> u32
-        ensures number { λ r. ⌜ r ≡ fillNumber (now (question .entry)) ⌝ }
-        ensures question { λ _. ⌜ now (question .exit) ≡ filled self order (now (question .entry)) ⌝ }
-    {
-        if question.len() != QUESTION_BYTES {
-            return WRONG_LENGTH;
-        }
-        let encoded = encoding::encode(self.question(order));
-        bytes::copy(&encoded, question);
-        ACCEPTED
     }
 }

@@ -3,10 +3,9 @@
 mod results; // results.rt: a price or a place, or none, as two numbers
 
 use daybook::Day;
-use daybook::FlatDay;
-use daybook::FlatEntered;
-use daybook::Order;
-use daybook::flat;
+use daynumbers::DayNumbers;
+use daynumbers::EnteredNumbers;
+use dayquestion::Order;
 use judging::Answer;
 use questions::missing;
 ghost use mathlib.Core.Path.{_≡_};
@@ -20,8 +19,8 @@ ghost use Rattle.judging.specs.Answers.{judged};
 ghost use Rattle.trades.specs.Trades.{tradeReferencesOf, tradeJudged};
 ghost use Rattle.daybook.specs.Events.{event};
 ghost use Rattle.daybook.specs.Days.{opened, entered};
-ghost use Rattle.daybook.specs.Filling.{fillNumber, filled};
-ghost use Rattle.daybook.specs.Flat.{dayFrom, flatEntered};
+ghost use Rattle.dayquestion.specs.Filling.{fillNumber, filled};
+ghost use Rattle.daynumbers.specs.Numbers.{dayFrom, enteredNumbers};
 ghost use Rattle.interface.specs.Results.{priceFound, placeFound};
 
 // A price: `found` is 1, or 0 where there is none, and the price is then 0.
@@ -134,24 +133,24 @@ pub extern "C" fn hendovita_five_percent_upper(reference: u32) -> PriceFound
 
 // A fresh day with this previous close; 0 is none. A close that is no ladder price gets 12, and the day has none.
 #[no_mangle]
-pub extern "C" fn hendovita_open_day(previous_close: u32) -> FlatEntered
-    ensures { λ r. ⌜ r ≡ flatEntered (opened (ladder phase1) (referenceOf «previous_close»)) ⌝ }
+pub extern "C" fn hendovita_open_day(previous_close: u32) -> EnteredNumbers
+    ensures { λ r. ⌜ r ≡ enteredNumbers (opened (ladder phase1) (referenceOf «previous_close»)) ⌝ }
 {
-    flat::flat_entered(Day::fresh(missing::reference_of(previous_close)))
+    daynumbers::entered_numbers(Day::fresh(missing::reference_of(previous_close)))
 }
 
 // The day after an event, or the day as it was, with 11 to 13. The day may be any numbers.
 #[no_mangle]
-pub extern "C" fn hendovita_enter_event(day: FlatDay, kind: u32, price: u32) -> FlatEntered
-    ensures { λ r. ⌜ r ≡ flatEntered (entered (ladder phase1) (dayFrom day) (event kind price)) ⌝ }
+pub extern "C" fn hendovita_enter_event(day: DayNumbers, kind: u32, price: u32) -> EnteredNumbers
+    ensures { λ r. ⌜ r ≡ enteredNumbers (entered (ladder phase1) (dayFrom day) (event kind price)) ⌝ }
 {
-    flat::flat_entered(flat::day_from(day).enter(kind, price))
+    daynumbers::entered_numbers(daynumbers::day_from(day).enter(kind, price))
 }
 
 // Writes the question of an order, filled from the day. A buffer that has not as many bytes as a question gets 1, and keeps every byte.
 #[no_mangle]
 pub extern "C" fn hendovita_fill_question(
-    day: FlatDay,
+    day: DayNumbers,
     side: u8,
     order_type: u8,
     price: u32,
@@ -167,5 +166,5 @@ pub extern "C" fn hendovita_fill_question(
         price,
         nominal,
     };
-    flat::day_from(day).fill(order, question)
+    dayquestion::fill(daynumbers::day_from(day), order, question)
 }
