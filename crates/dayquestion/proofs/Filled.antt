@@ -71,11 +71,11 @@ of-code P one two three four five d =
     go (present (d .bids .last) || present (d .asks .last)) (present (d .bids .current)) (present (d .asks .current))
   where
     go : (any bid ask : Bool) → P (queueCode any bid ask)
-    go false bid ask = one
-    go true true true = two
-    go true true false = three
-    go true false true = four
-    go true false false = five
+    go false bid ask = search (one, two, three, four, five)
+    go true true true = search (one, two, three, four, five)
+    go true true false = search (one, two, three, four, five)
+    go true false true = search (one, two, three, four, five)
+    go true false false = search (one, two, three, four, five)
 
 code-fits : (d : Day) → queueCodeOf d < byteBound
 code-fits = of-code (λ (n : ℕ). n < byteBound) (omega arith) (omega arith) (omega arith) (omega arith) (omega arith)
