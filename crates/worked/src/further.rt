@@ -154,7 +154,7 @@ pub(crate) fn refused() {
 
 // High(0.034) is 0.058. Where all are missing the range is the whole ladder.
 pub(crate) fn trades() {
-    reporting::trade(
+    reporting::answer(
         b"trade, bids 9.60 to 10.30",
         9601,
         judge_trade(9601, 0, 9600, 0, 10300, 0),
@@ -162,7 +162,7 @@ pub(crate) fn trades() {
         9600,
         10300,
     );
-    reporting::trade(
+    reporting::answer(
         b"trade, close 0.034",
         59,
         judge_trade(59, 34, 0, 0, 0, 0),
@@ -170,7 +170,7 @@ pub(crate) fn trades() {
         10,
         58,
     );
-    reporting::trade(
+    reporting::answer(
         b"trade, all missing",
         0,
         judge_trade(0, 0, 0, 0, 0, 0),

@@ -5,6 +5,7 @@ mod reporting; // reporting.rt: a line of output, right or WRONG
 mod paper; // paper.rt: lines A to P, and source document 004
 mod wrong_programs; // wrong_programs.rt: answers of wrong programs that must not come out
 mod further; // further.rt: lines beyond those of the paper
+mod days; // days.rt: a day book, and orders that are filled from it
 
 fn main() {
     paper::a_to_d();
@@ -24,4 +25,6 @@ fn main() {
     further::nine_fold();
     further::refused();
     further::trades();
+    days::opening();
+    days::quotes();
 }

@@ -53,7 +53,7 @@ pub(crate) fn k_and_l() {
 // Close 10, bids 9.60 to 10.30, asks 9.80 to 10.60.
 fn trade_m(price: u32, number: u32) {
     let answer = judge_trade(price, 10000, 9600, 9800, 10300, 10600);
-    reporting::trade(b"M", price, answer, number, 9500, 10600);
+    reporting::answer(b"M", price, answer, number, 9500, 10600);
 }
 
 pub(crate) fn m() {

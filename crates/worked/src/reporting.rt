@@ -103,8 +103,8 @@ pub(crate) fn range(
     order(asked, tried, above.price, above.number, lowest, highest);
 }
 
-// The answer to a trade.
-pub(crate) fn trade(
+// An answer at a price, and the numbers of the one that is due.
+pub(crate) fn answer(
     asked: &[u8],
     price: u32,
     found: Answer,
@@ -130,33 +130,39 @@ fn price_of(found: Found) -> u32
     }
 }
 
-// Whether a price is the one that is due.
-fn is_due(price: u32, due: u32) -> bool
-    ensures { λ r. ⌜ r ≡ eqb price due ⌝ }
+// Whether a number is the one that is due.
+fn is_due(found: u32, due: u32) -> bool
+    ensures { λ r. ⌜ r ≡ eqb found due ⌝ }
 {
-    price == due
+    found == due
 }
 
 // What was found, and what is due.
-fn say_prices(asked: &[u8], price: u32, due: u32) {
+fn say_both(asked: &[u8], found: u32, due: u32) {
     say(asked);
     say(b": ");
-    say_number(price);
+    say_number(found);
     say(b", due ");
     say_number(due);
+}
+
+// The number that an event got.
+pub(crate) fn number(event: &[u8], number: u32, due: u32) {
+    say_both(event, number, due);
+    say_whether(is_due(number, due));
 }
 
 // A step or a limit.
 pub(crate) fn price(asked: &[u8], found: Found, due: u32) {
     let price = price_of(found);
-    say_prices(asked, price, due);
+    say_both(asked, price, due);
     say_whether(is_due(price, due));
 }
 
 // A step or a limit, and what a wrong program would find.
 pub(crate) fn price_and_not(asked: &[u8], found: Found, due: u32, not: u32) {
     let price = price_of(found);
-    say_prices(asked, price, due);
+    say_both(asked, price, due);
     say(b" and not ");
     say_number(not);
     say_whether(is_due(price, due) & !is_due(price, not));
