@@ -294,9 +294,9 @@ enum hendovita_event {
 /*
  * What a day keeps for one security; 0 where there is none. The previous
  * close. Of the bids and of the asks that were accepted so far: the current
- * one, which is none where the queue is empty; the last one, which the current
- * one is too; the lowest and the highest. Of the System trades that were
- * accepted so far: the lowest and the highest.
+ * one, which is none where the queue is empty; the last one, which is the
+ * current one where there is one; the lowest and the highest. Of the System
+ * trades that were accepted so far: the lowest and the highest.
  *
  * Days that hendovita_open_day and then hendovita_enter_event return are
  * right by the events. Every other day is taken by its numbers all the same:

@@ -1,6 +1,5 @@
 -- The day by events is the day by the list of those that are accepted.
 use mathlib.Core.Path.{_≡_, refl}
-use Prim.Native.Nat.{ℕ}
 use mathlib.Core.Bool.{Bool, true, false, cond}
 use mathlib.Core.List.{[], _∷_}
 use lib.Dec.{eqb}
@@ -10,7 +9,7 @@ use Rattle.questions.specs.declared.Reference.the-variants.{Missing, Price}
 use Rattle.questions.specs.Missing.{least, greatest}
 use Rattle.daybook.specs.Events.{Event, Queue, Buy, Sell, bestOf, emptyOf, systemTrade, History}
 use Rattle.daybook.specs.Kept.{currentOf, lastOf, lowestOf, highestOf}
-use Rattle.daybook.specs.Accepted.{numberAfter, with, accepted}
+use Rattle.daybook.specs.Accepted.{numberAfter, withEvent, accepted}
 use Rattle.daybook.specs.Days.{quotesIn, tradedIn, dayOf, takenClose, opened, quoted, emptied, quotesAfter, tradedAt, tradedAfter, dayAfter, entered, played}
 
 -- one more event in the list
@@ -62,5 +61,5 @@ followed l close (e ∷ earlier) = step (played l close earlier) (followed l clo
     go true = day-follows c e h
     go false = refl
 
-    step : (d : _) → d ≡ dayOf c h → entered l d e .day ≡ dayOf c (with l e h)
+    step : (d : _) → d ≡ dayOf c h → entered l d e .day ≡ dayOf c (withEvent l e h)
     step d same = rw same (go (eqb (numberAfter l h e) 0))

@@ -1,13 +1,14 @@
 -- Which events are accepted, and which number the others get. Document 02 (a), "Turned away".
 use Prim.Native.Nat.{ℕ}
-use mathlib.Core.Bool.{Bool, false, not, cond, _&&_, _||_}
+use mathlib.Core.Bool.{Bool, not, cond, _&&_, _||_}
 use mathlib.Core.List.{[], _∷_}
-use lib.Dec.{eqb, leb}
+use lib.Dec.{eqb}
 use Rattle.facts.specs.Lists.{holds}
 use Rattle.ladder.specs.Ladder.{Prices}
 use Rattle.questions.specs.declared.Reference.{Reference}
-use Rattle.questions.specs.declared.Reference.the-variants.{Missing, Price}
-use Rattle.daybook.specs.Events.{Event, Queue, Buy, Sell, bestBid, bestAsk, buyQueueEmpty, sellQueueEmpty, systemTrade, History}
+use Rattle.questions.specs.declared.Reference.the-variants.{Price}
+use Rattle.questions.specs.Missing.{present, isBelow}
+use Rattle.daybook.specs.Events.{Event, Buy, Sell, bestBid, bestAsk, buyQueueEmpty, sellQueueEmpty, systemTrade, History}
 use Rattle.daybook.specs.Kept.{currentOf}
 
 -- the kinds that come with a price, and those that come with none
@@ -27,9 +28,7 @@ offLadder l e = isPriced (e .kind) && not (holds (e .price) l)
 
 -- both are there, and the bid is not below the ask
 abbrev pub meet : Reference → Reference → Bool
-meet Missing ask = false
-meet (Price bid) Missing = false
-meet (Price bid) (Price ask) = leb ask bid
+meet bid ask = present bid && present ask && not (isBelow bid ask)
 
 -- "13 a bid not below the current ask, or an ask not above the current bid"
 abbrev pub crosses : Reference → Reference → Event → Bool
@@ -57,10 +56,10 @@ abbrev pub numberAfter : Prices → History → Event → ℕ
 numberAfter l h e = eventNumber l (currentOf Buy h) (currentOf Sell h) e
 
 -- the list with an event, where it is accepted
-abbrev pub with : Prices → Event → History → History
-with l e h = cond (eqb (numberAfter l h e) 0) (e ∷ h) h
+abbrev pub withEvent : Prices → Event → History → History
+withEvent l e h = cond (eqb (numberAfter l h e) 0) (e ∷ h) h
 
 -- the accepted ones of a list of events, each looked at after those before it
 unfoldable pub accepted : Prices → History → History
 accepted l [] = []
-accepted l (e ∷ earlier) = with l e (accepted l earlier)
+accepted l (e ∷ earlier) = withEvent l e (accepted l earlier)

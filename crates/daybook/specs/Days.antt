@@ -33,9 +33,9 @@ tradedIn h = record { low = lowestOf systemTrade h; high = highestOf systemTrade
 abbrev pub dayOf : Reference → History → Day
 dayOf close h = record { «previous_close» = close; bids = quotesIn Buy h; asks = quotesIn Sell h; traded = tradedIn h }
 
--- ---- a day by its numbers, whatever they are: what the calls do
+-- ---- a day by what it keeps, whatever that is: what the calls do
 
--- a day that has begun: nothing has happened
+-- a fresh day: no event yet
 abbrev pub freshDay : Reference → Day
 freshDay close = dayOf close []
 
@@ -47,7 +47,7 @@ takenClose l close = cond (isOff l close) Missing close
 unfoldable pub opened : Prices → Reference → Entered
 opened l close = record { number = cond (isOff l close) offLadderNumber 0; day = freshDay (takenClose l close) }
 
--- the quotes of a queue after its best price is told, and after it is told to be empty
+-- the quotes of a queue after an event gives its best price, and after one says that it is empty
 abbrev pub quoted : ℕ → Quotes → Quotes
 quoted p q = record { current = Price p; last = Price p; lowest = least (Price p) (q .lowest); highest = greatest (Price p) (q .highest) }
 

@@ -39,6 +39,6 @@ abbrev pub emptyOf : Queue → ℕ
 emptyOf Buy = buyQueueEmpty
 emptyOf Sell = sellQueueEmpty
 
--- events one after the other, THE LATEST FIRST
+-- events one after the other, THE LATEST FIRST: those that are entered, or those of them that are accepted
 abbrev pub History : Type 0
 History = List Event

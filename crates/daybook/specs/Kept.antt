@@ -7,7 +7,7 @@ use lib.Dec.{eqb}
 use Rattle.questions.specs.declared.Reference.{Reference}
 use Rattle.questions.specs.declared.Reference.the-variants.{Missing, Price}
 use Rattle.questions.specs.Missing.{least, greatest}
-use Rattle.daybook.specs.Events.{Event, Queue, bestOf, emptyOf, bestBid, bestAsk, systemTrade, History}
+use Rattle.daybook.specs.Events.{Queue, bestOf, emptyOf, bestBid, bestAsk, History}
 
 -- the current bid or ask: the latest of the queue's best prices and emptyings decides
 unfoldable pub currentOf : Queue → History → Reference
@@ -17,7 +17,7 @@ currentOf queue (e ∷ earlier) =
     (cond (eqb (e .kind) (emptyOf queue)) Missing
     (currentOf queue earlier))
 
--- "last (latest accepted)": the price of the latest event of a kind. The last bid is that of kind 1, and the current bid is one
+-- "last (latest accepted)": the price of the latest event of a kind. The last bid is that of kind 1; where there is a current bid, it is that
 unfoldable pub lastOf : ℕ → History → Reference
 lastOf kind [] = Missing
 lastOf kind (e ∷ earlier) = cond (eqb (e .kind) kind) (Price (e .price)) (lastOf kind earlier)

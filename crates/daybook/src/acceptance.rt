@@ -2,6 +2,7 @@
 use ladder::places;
 use questions::Reference;
 use questions::checks;
+use questions::missing;
 ghost use mathlib.Core.Path.{_≡_};
 ghost use Rattle.ladder.specs.Bands.{phase1};
 ghost use Rattle.ladder.specs.Ladder.{ladder};
@@ -9,7 +10,7 @@ ghost use Rattle.facts.specs.Lists.{holds};
 ghost use Rattle.questions.specs.Checks.{isOff};
 ghost use Rattle.daybook.specs.Accepted.{meet};
 
-// Whether a previous close is present, but no ladder price.
+// Whether a reference is present, but no ladder price.
 pub(crate) fn is_off(reference: Reference) -> bool
     ensures { λ r. ⌜ r ≡ isOff (ladder phase1) reference ⌝ }
 {
@@ -29,11 +30,5 @@ pub(crate) fn is_on_ladder(price: u32) -> bool
 pub(crate) fn do_meet(bid: Reference, ask: Reference) -> bool
     ensures { λ r. ⌜ r ≡ meet bid ask ⌝ }
 {
-    match bid {
-        Reference::Missing => false,
-        Reference::Price(x) => match ask {
-            Reference::Missing => false,
-            Reference::Price(y) => y <= x,
-        },
-    }
+    missing::is_present(bid) & missing::is_present(ask) & !missing::is_below(bid, ask)
 }

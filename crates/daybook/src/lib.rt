@@ -12,8 +12,8 @@ ghost use Rattle.ladder.specs.Ladder.{ladder};
 ghost use Rattle.daybook.specs.Events.{event, bestBid, bestAsk, buyQueueEmpty, sellQueueEmpty, systemTrade};
 ghost use Rattle.daybook.specs.Days.{opened, entered};
 
-// What is kept of the bids, or of the asks: the current one, which is missing where the queue is empty; the last one, which the current one
-// is too; the lowest and the highest so far.
+// What is kept of the bids, or of the asks: the current one, which is missing where the queue is empty; the last one, which is the current
+// one where there is one; the lowest and the highest so far.
 pub struct Quotes {
     pub current: Reference,
     pub last: Reference,
@@ -41,8 +41,8 @@ pub struct Entered {
     pub day: Day,
 }
 
-// The numbers of events that are turned away: an unknown kind, or a price with an emptied queue; a price off the ladder, or a close; a bid not
-// below the current ask, or an ask not above the current bid.
+// 0, and the numbers of what is turned away: an unknown kind, or a price with an emptied queue; a price off the ladder, or such a close; a bid
+// not below the current ask, or an ask not above the current bid.
 const ACCEPTED: u32 = 0;
 
 const UNKNOWN_EVENT: u32 = 11;
@@ -52,8 +52,8 @@ const OFF_LADDER: u32 = 12;
 const QUOTES_CROSS: u32 = 13;
 
 impl Day {
-    // The day as it is, with the number of what was turned away.
-    fn turned_away(self, number: u32) -> Entered
+    // The day as it is, with a number beside it.
+    fn with_number(self, number: u32) -> Entered
         ensures { λ r. ⌜ r ≡ record { number = number; day = self } ⌝ }
     {
         Entered { number, day: self }
@@ -63,7 +63,7 @@ impl Day {
     fn accepted(self) -> Entered
         ensures { λ r. ⌜ r ≡ record { number = 0; day = self } ⌝ }
     {
-        self.turned_away(ACCEPTED)
+        self.with_number(ACCEPTED)
     }
 
     // A fresh day. A previous close that is no ladder price gets 12, and the day then has none.
@@ -72,7 +72,7 @@ impl Day {
     {
         if acceptance::is_off(previous_close) {
             let day = keeping::fresh_day(Reference::Missing);
-            return day.turned_away(OFF_LADDER);
+            return day.with_number(OFF_LADDER);
         }
         let day = keeping::fresh_day(previous_close);
         day.accepted()
@@ -83,12 +83,12 @@ impl Day {
         ensures { λ r. ⌜ r ≡ entered (ladder phase1) self (event bestBid price) ⌝ }
     {
         if !acceptance::is_on_ladder(price) {
-            return self.turned_away(OFF_LADDER);
+            return self.with_number(OFF_LADDER);
         }
         let asks = self.asks;
         let ask = asks.current;
         if acceptance::do_meet(Reference::Price(price), ask) {
-            return self.turned_away(QUOTES_CROSS);
+            return self.with_number(QUOTES_CROSS);
         }
         let bids = self.bids;
         self.bids = keeping::after_quote(bids, price);
@@ -100,12 +100,12 @@ impl Day {
         ensures { λ r. ⌜ r ≡ entered (ladder phase1) self (event bestAsk price) ⌝ }
     {
         if !acceptance::is_on_ladder(price) {
-            return self.turned_away(OFF_LADDER);
+            return self.with_number(OFF_LADDER);
         }
         let bids = self.bids;
         let bid = bids.current;
         if acceptance::do_meet(bid, Reference::Price(price)) {
-            return self.turned_away(QUOTES_CROSS);
+            return self.with_number(QUOTES_CROSS);
         }
         let asks = self.asks;
         self.asks = keeping::after_quote(asks, price);
@@ -135,7 +135,7 @@ impl Day {
         ensures { λ r. ⌜ r ≡ entered (ladder phase1) self (event systemTrade price) ⌝ }
     {
         if !acceptance::is_on_ladder(price) {
-            return self.turned_away(OFF_LADDER);
+            return self.with_number(OFF_LADDER);
         }
         let traded = self.traded;
         self.traded = keeping::after_trade(traded, price);
@@ -151,18 +151,18 @@ impl Day {
             2 => self.best_ask(price),
             3 => {
                 if price != 0 {
-                    return self.turned_away(UNKNOWN_EVENT);
+                    return self.with_number(UNKNOWN_EVENT);
                 }
                 self.buy_queue_empty()
             }
             4 => {
                 if price != 0 {
-                    return self.turned_away(UNKNOWN_EVENT);
+                    return self.with_number(UNKNOWN_EVENT);
                 }
                 self.sell_queue_empty()
             }
             5 => self.system_trade(price),
-            0 | 6..=4294967295 => self.turned_away(UNKNOWN_EVENT),
+            0 | 6..=4294967295 => self.with_number(UNKNOWN_EVENT),
         }
     }
 }

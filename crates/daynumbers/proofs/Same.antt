@@ -1,6 +1,6 @@
 -- A day as plain numbers: nothing is lost, since no ladder price is 0; and an off-System trade that is given these numbers.
 use mathlib.Core.Path.{_≡_, refl}
-use Prim.Native.Nat.{ℕ}
+use Prim.Native.Nat.{ℕ, zero, suc}
 use native.Mathlib.Omega.{arith}
 use mathlib.Core.Bool.{Bool, true, false, cond}
 use mathlib.Core.List.{[], _∷_}
@@ -27,10 +27,20 @@ use Rattle.trades.specs.Laws.{isTradeRefusal}
 use Rattle.daybook.specs.declared.Day.{Day}
 use Rattle.daybook.specs.Events.{History}
 use Rattle.daybook.specs.Days.{played}
+use Rattle.daynumbers.specs.declared.DayNumbers.{DayNumbers}
 use Rattle.daynumbers.specs.Numbers.{numbersOfDay, dayFrom, playedInNumbers}
 use Rattle.daybook.specs.Laws.{DayInOrder}
 use Rattle.daybook.proofs.Laws.{day-laws}
 use Rattle.daynumbers.specs.Laws.{SameDay, tradeOn}
+
+-- a number is the number of the reference that it stands for, and so are eleven
+number-back : (x : ℕ) → numberOf (referenceOf x) ≡ x
+number-back zero = refl
+number-back (suc x) = rw (ne-eqb (suc x) 0 (λ e. omega (arith, e)))
+
+pub same-back : (n : DayNumbers) → numbersOfDay (dayFrom n) ≡ n
+unfolding dayFrom numbersOfDay
+same-back n = simp number-back
 
 module _ (t : Table) (wf : T (wellFormed t)) where
   -- a price of the ladder is not 0, so that its number stands for it

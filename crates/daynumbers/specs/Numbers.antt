@@ -1,4 +1,4 @@
--- A day as plain numbers, 0 where there is none: the form in which C holds it. Every eleven numbers are a day.
+-- A day as plain numbers, 0 where there is none: the form in which C holds it. Any eleven numbers are a day.
 use Prim.Native.Nat.{ℕ}
 use mathlib.Core.List.{[], _∷_}
 use Rattle.ladder.specs.Ladder.{Prices}
@@ -49,5 +49,5 @@ enteredNumbers e = record { number = e .number; day = numbersOfDay (e .day) }
 
 -- the day after all these events, handed from call to call as numbers
 unfoldable pub playedInNumbers : Prices → ℕ → History → DayNumbers
-playedInNumbers l close [] = numbersOfDay (opened l (referenceOf close) .day)
-playedInNumbers l close (e ∷ earlier) = numbersOfDay (entered l (dayFrom (playedInNumbers l close earlier)) e .day)
+playedInNumbers l close [] = enteredNumbers (opened l (referenceOf close)) .day
+playedInNumbers l close (e ∷ earlier) = enteredNumbers (entered l (dayFrom (playedInNumbers l close earlier)) e) .day

@@ -1,4 +1,4 @@
-// A day as plain numbers, 0 where there is none: the form in which C holds it. Every eleven numbers are a day.
+// A day as plain numbers: the form in which C holds it. Any eleven numbers are a day.
 use daybook::Day;
 use daybook::Entered;
 use daybook::Quotes;

@@ -1,10 +1,10 @@
 -- What a question is answered that is filled from a day that events led to.
-use mathlib.Core.Path.{_≡_, refl, sym, _∙_}
+use mathlib.Core.Path.{_≡_, refl, sym, ap}
 use Prim.Native.Nat.{ℕ, zero, suc, _<_}
 use native.Mathlib.Omega.{arith}
 use mathlib.Core.Bool.{Bool, true, false, not, cond, _&&_, _||_}
-use lib.Dec.{T, eqb, ltb}
-use borrow.Author.Tests.{lt-ltb, leb-false, ne-eqb}
+use lib.Dec.{T, ltb}
+use borrow.Author.Tests.{lt-ltb, ne-eqb, not-false}
 use Rattle.little_endian.specs.Laws.{byteBound, numberBound}
 use Rattle.facts.proofs.Tests.{and-both, true-of, true-is-false}
 use Rattle.ladder.specs.Bands.{Table, wellFormed}
@@ -31,7 +31,6 @@ use Rattle.ranges.specs.declared.Range.{Range}
 use Rattle.ranges.specs.Laws.{On}
 use Rattle.ranges.proofs.Laws.{range-laws}
 use Rattle.ranges.specs.declared.Refusal.the-variants.{UnknownCode}
-use Rattle.ranges.specs.declared.Reading.{Reading}
 use Rattle.ranges.specs.declared.Reading.the-variants.{Permitted, Refused}
 use Rattle.ranges.specs.Permitted.{rangeOf}
 use Rattle.ranges.specs.Readings.{inOrder, readingBy, readingOn, readingOf}
@@ -86,7 +85,7 @@ code-known = of-code (λ (n : ℕ). knownQueue n ≡ true) refl refl refl refl r
 -- ---- its references agree
 
 agree : (bid ask lastBid lastAsk close low high nominal : Reference) → meet bid ask ≡ false →
-    (present bid ≡ true → present lastBid ≡ true) → (present ask ≡ true → present lastAsk ≡ true) → badPair low high ≡ false →
+    (present bid ≡ true → lastBid ≡ bid) → (present ask ≡ true → lastAsk ≡ ask) → badPair low high ≡ false →
     let r : References =
     record {
       «current_bid» = bid;
@@ -100,13 +99,13 @@ agree : (bid ask lastBid lastAsk close low high nominal : Reference) → meet bi
     } in
     disagree (queuesOf (queueCode (present lastBid || present lastAsk) (present bid) (present ask)) r) r ≡ false
 unfolding disagree
-agree (Price x) (Price y) (Price a) lastAsk close low high nominal apart f g pair = rw (lt-ltb x y (leb-false y x apart)) pair
-agree (Price x) (Price y) Missing lastAsk close low high nominal apart f g pair = true-is-false (sym (f refl))
+agree (Price x) (Price y) (Price a) lastAsk close low high nominal apart f g pair = rw (not-false (ltb x y) apart) pair
+agree (Price x) (Price y) Missing lastAsk close low high nominal apart f g pair = true-is-false (sym (ap present (f refl)))
 agree (Price x) Missing (Price a) lastAsk close low high nominal apart f g pair = pair
-agree (Price x) Missing Missing lastAsk close low high nominal apart f g pair = true-is-false (sym (f refl))
+agree (Price x) Missing Missing lastAsk close low high nominal apart f g pair = true-is-false (sym (ap present (f refl)))
 agree Missing (Price y) (Price a) (Price b) close low high nominal apart f g pair = pair
 agree Missing (Price y) Missing (Price b) close low high nominal apart f g pair = pair
-agree Missing (Price y) lastBid Missing close low high nominal apart f g pair = true-is-false (sym (g refl))
+agree Missing (Price y) lastBid Missing close low high nominal apart f g pair = true-is-false (sym (ap present (g refl)))
 agree Missing Missing Missing Missing close low high nominal apart f g pair = pair
 agree Missing Missing (Price a) lastAsk close low high nominal apart f g pair = pair
 agree Missing Missing Missing (Price b) close low high nominal apart f g pair = pair

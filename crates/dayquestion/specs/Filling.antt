@@ -12,15 +12,15 @@ use Rattle.judging.specs.Numbers.{wrongLength}
 use Rattle.daybook.specs.declared.Day.{Day}
 use Rattle.dayquestion.specs.declared.Order.{Order}
 
--- "the queue code (1 opening: no bid and no ask yet today; 2 both queues; 3 buy only; 4 sell only; 5 neither)", by whether there was a bid
--- or an ask today, and whether there is a current bid, and a current ask
+-- Document 01: "the queue code (1 opening: no bid and no ask yet today; 2 both queues; 3 buy only; 4 sell only; 5 neither)", by whether there
+-- was a bid or an ask today, and whether there is a current bid, and a current ask
 abbrev pub opening : ℕ
 opening = 1
 
 abbrev pub queueCode : Bool → Bool → Bool → ℕ
 queueCode anyToday bid ask = cond (not anyToday) opening (cond bid (cond ask 2 3) (cond ask 4 5))
 
--- by a day, whatever its numbers: there was one today where there is a last one
+-- by a day, whatever it keeps: there was one today where there is a last one
 abbrev pub queueCodeOf : Day → ℕ
 queueCodeOf d =
     queueCode (present (d .bids .last) || present (d .asks .last)) (present (d .bids .current)) (present (d .asks .current))

@@ -1,5 +1,5 @@
 -- The laws of questions that are filled from a day, for every list of events that was entered into a fresh one. Each is a field of the record
--- FillingLaws at the end, which proofs/Laws.antt proves as filling-laws: CodeByTheList is the field code-by-the-list.
+-- FillingLaws at the end, which proofs/Laws.antt proves as filling-laws: OpeningUntilQuoted is the field opening-until-quoted.
 use mathlib.Core.Path.{_≡_}
 use Prim.Native.Nat.{ℕ, _<_}
 use mathlib.Core.Bool.{true, false, not, _&&_}
@@ -10,28 +10,55 @@ use Rattle.ladder.specs.Ladder.{Prices, ladder}
 use Rattle.ladder.specs.Places.{lastPrice}
 use Rattle.limits.specs.declared.Percentage.{Percentage}
 use Rattle.questions.specs.declared.Reference.{Reference}
+use Rattle.questions.specs.declared.Question.{Question}
 use Rattle.questions.specs.Missing.{referenceOf, present}
 use Rattle.questions.specs.Checks.{isOff}
 use Rattle.questions.specs.Record.{bytesOf}
 use Rattle.rules.specs.Rules.{knownSide, knownType}
 use Rattle.judging.specs.declared.Answer.{Answer}
 use Rattle.judging.specs.Answers.{judged}
-use Rattle.daybook.specs.Events.{Buy, Sell, History}
-use Rattle.daybook.specs.Kept.{currentOf, anyQuote}
+use Rattle.daybook.specs.Events.{bestBid, bestAsk, systemTrade, Buy, Sell, History}
+use Rattle.daybook.specs.Kept.{currentOf, lastOf, lowestOf, highestOf, anyQuote}
 use Rattle.daybook.specs.Accepted.{accepted}
-use Rattle.daybook.specs.Days.{played}
+use Rattle.daybook.specs.Days.{takenClose, played}
 use Rattle.dayquestion.specs.declared.Order.{Order}
 use Rattle.dayquestion.specs.Filling.{opening, queueCode, questionFrom}
 
--- "It has the opening code exactly while no bid or ask was accepted", else the code that the queues say; h is the list of accepted events.
-pub record CodeSays (h : History) (code : ℕ) : Type 0 where
-  pub opens : eqb code opening ≡ not (anyQuote h)
-  pub by-queues : code ≡ queueCode (anyQuote h) (present (currentOf Buy h)) (present (currentOf Sell h))
-
-abbrev pub CodeByTheList : Type 0
-CodeByTheList =
+-- "It has the opening code exactly while no bid or ask was accepted".
+abbrev pub OpeningUntilQuoted : Type 0
+OpeningUntilQuoted =
     (l : Prices) (close : Reference) (events : History) (o : Order) →
-    CodeSays (accepted l events) (questionFrom (played l close events) o .codes .queue)
+    eqb (questionFrom (played l close events) o .codes .queue) opening ≡ not (anyQuote (accepted l events))
+
+-- "A question filled from such a day takes queue code and references from it, the nominal and the rest from the caller": all of it, by h.
+abbrev pub questionBy : Reference → History → Order → Question
+questionBy close h o =
+    record {
+      codes =
+          record {
+            side = o .side;
+            «order_type» = o .«order_type»;
+            queue = queueCode (anyQuote h) (present (currentOf Buy h)) (present (currentOf Sell h));
+            «byte_3» = 0;
+          };
+      price = o .price;
+      references =
+          record {
+            «current_bid» = currentOf Buy h;
+            «current_ask» = currentOf Sell h;
+            «last_bid» = lastOf bestBid h;
+            «last_ask» = lastOf bestAsk h;
+            «previous_close» = close;
+            «day_low» = lowestOf systemTrade h;
+            «day_high» = highestOf systemTrade h;
+            nominal = referenceOf (o .nominal);
+          };
+    }
+
+abbrev pub QuestionByTheList : Type 0
+QuestionByTheList =
+    (l : Prices) (close : Reference) (events : History) (o : Order) →
+    questionFrom (played l close events) o ≡ questionBy (takenClose l close) (accepted l events) o
 
 -- what the caller gives fits its bytes
 pub record OrderFits (o : Order) : Type 0 where
@@ -56,5 +83,6 @@ OnlyTheCaller =
 -- ---- all of them
 
 pub record FillingLaws : Type 0 where
-  pub code-by-the-list : CodeByTheList
+  pub opening-until-quoted : OpeningUntilQuoted
+  pub question-by-the-list : QuestionByTheList
   pub only-the-caller : OnlyTheCaller

@@ -36,15 +36,15 @@ pub fn question(day: Day, order: Order) -> Question
     }
 }
 
-// The same as bytes. A slice that has not as many bytes as a question gets 1, and keeps every byte.
-pub fn fill(day: Day, order: Order, bytes: &mut [u8]) -> u32
-    ensures number { λ r. ⌜ r ≡ fillNumber (now (bytes .entry)) ⌝ }
-    ensures bytes { λ _. ⌜ now (bytes .exit) ≡ filled day order (now (bytes .entry)) ⌝ }
+// The same as bytes. Room of not as many bytes as a question has gets 1, and keeps every byte.
+pub fn fill(day: Day, order: Order, room: &mut [u8]) -> u32
+    ensures number { λ r. ⌜ r ≡ fillNumber (now (room .entry)) ⌝ }
+    ensures bytes { λ _. ⌜ now (room .exit) ≡ filled day order (now (room .entry)) ⌝ }
 {
-    if bytes.len() != QUESTION_BYTES {
+    if room.len() != QUESTION_BYTES {
         return WRONG_LENGTH;
     }
     let encoded = encoding::encode(question(day, order));
-    bytes::copy(&encoded, bytes);
+    bytes::copy(&encoded, room);
     0
 }

@@ -139,7 +139,7 @@ pub extern "C" fn hendovita_open_day(previous_close: u32) -> EnteredNumbers
     daynumbers::entered_numbers(Day::fresh(missing::reference_of(previous_close)))
 }
 
-// The day after an event, or the day as it was, with 11 to 13. The day may be any numbers.
+// The day after an event, with 0; or the day as it was, with 11, 12 or 13. The day may be any numbers.
 #[no_mangle]
 pub extern "C" fn hendovita_enter_event(day: DayNumbers, kind: u32, price: u32) -> EnteredNumbers
     ensures { λ r. ⌜ r ≡ enteredNumbers (entered (ladder phase1) (dayFrom day) (event kind price)) ⌝ }

@@ -1,5 +1,5 @@
-// Numbers in bytes: 4 bytes each, little-endian, which is the lowest first. Questions, answers and whatever else is a record is read and
-// written by these.
+// Numbers in bytes: 4 bytes each, little-endian, which is the lowest first. Records, such as questions and answers, are read and written with
+// these.
 ghost use mathlib.Core.Path.{_≡_};
 ghost use Prim.Native.Nat.{_+_, _*_, _≤_};
 ghost use lib.ListN.{length};

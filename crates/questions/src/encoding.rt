@@ -32,7 +32,7 @@ fn with_reference(
     with_number(bytes, at, missing::number_of(reference))
 }
 
-// The bytes that hold a question: `decoding::decode` gives it back.
+// The bytes that hold a question: `decoding::decode` gives it back, where no reference is a price of 0, which stands for missing.
 pub fn encode(question: Question) -> [u8; QUESTION_BYTES]
     ensures { λ r. ⌜ r ≡ bytesOf question ⌝ }
 {

@@ -7,7 +7,7 @@ use Rattle.daybook.proofs.Day.best_ask.Tie as tie
 
 returns : tie.Need-returns
 unfolding eventNumber entered
-returns c = rw (c .turned-away .ensures, ← (c .before .before .is-on-ladder .ensures), c .before .if1 .taken)
+returns c = rw (c .with-number .ensures, ← (c .before .before .is-on-ladder .ensures), c .before .if1 .taken)
 
 returns-2 : tie.Need-returns-2
 unfolding eventNumber entered
@@ -15,7 +15,7 @@ returns-2 c =
     let crossed = c .before in
     let on = crossed .before .before .before in
     rw (
-      c .turned-away2 .ensures,
+      c .with-number2 .ensures,
       ← (on .before .is-on-ladder .ensures),
       on .if1 .left,
       ← (crossed .before .do-meet .ensures),

@@ -14,11 +14,11 @@ use Rattle.daybook.proofs.Day.enter.Tie as tie
 
 returns : tie.Need-returns
 unfolding eventNumber entered
-returns c = rw (c .turned-away .ensures, c .before .before .match .keys3, ne-eqb _ _ (c .before .if1 .taken))
+returns c = rw (c .with-number .ensures, c .before .before .match .keys3, ne-eqb _ _ (c .before .if1 .taken))
 
 returns-2 : tie.Need-returns-2
 unfolding eventNumber entered
-returns-2 c = rw (c .turned-away2 .ensures, c .before .before .match .keys4, ne-eqb _ _ (c .before .if2 .taken))
+returns-2 c = rw (c .with-number2 .ensures, c .before .before .match .keys4, ne-eqb _ _ (c .before .if2 .taken))
 
 returns-3 : tie.Need-returns-3
 returns-3 c = rw (c .before .match .keys1) (c .best-bid .ensures)
@@ -48,7 +48,7 @@ module _ (l : Prices) (d : Day) (kind price : ℕ) where
 
 returns-8 : tie.Need-returns-8
 returns-8 c =
-    c .turned-away3 .ensures ∙
+    c .with-number3 .ensures ∙
     ⊎-elim (λ w. kind-zero _ _ _ _ (w .keys6))
     (λ w. let n = w .rest in kind-beyond _ _ _ _ (n .0 .0 .0 .0 .0 .1) (n .0 .0 .0 .0 .1) (n .0 .0 .0 .1) (n .0 .0 .1) (n .0 .1))
     (c .before .match .came)

@@ -7,7 +7,7 @@ use Rattle.daybook.proofs.Day.fresh.Tie as tie
 returns : tie.Need-returns
 unfolding opened
 returns c =
-    rw (c .turned-away .ensures, c .before .fresh-day .ensures, ← (c .before .before .before .is-off .ensures), c .before .before .if1 .taken)
+    rw (c .with-number .ensures, c .before .fresh-day .ensures, ← (c .before .before .before .is-off .ensures), c .before .before .if1 .taken)
 
 returns-2 : tie.Need-returns-2
 unfolding opened

@@ -7,7 +7,7 @@ use Rattle.daybook.proofs.Day.system_trade.Tie as tie
 
 returns : tie.Need-returns
 unfolding eventNumber entered
-returns c = rw (c .turned-away .ensures, ← (c .before .before .is-on-ladder .ensures), c .before .if1 .taken)
+returns c = rw (c .with-number .ensures, ← (c .before .before .is-on-ladder .ensures), c .before .if1 .taken)
 
 returns-2 : tie.Need-returns-2
 unfolding eventNumber entered

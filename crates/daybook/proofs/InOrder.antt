@@ -4,23 +4,23 @@ use Prim.Native.Nat.{ℕ, min, max}
 use native.Mathlib.Omega.{arith}
 use mathlib.Core.Bool.{Bool, true, false, not, cond, _||_}
 use mathlib.Core.List.{[], _∷_}
-use lib.Dec.{eqb, ltb}
-use borrow.Author.Tests.{le-ltb, ltb-false, ne-eqb, eqb-true, not-false}
+use lib.Dec.{eqb}
+use borrow.Author.Tests.{le-ltb, ltb-false, eqb-true}
 use Rattle.facts.specs.Lists.{holds}
 use Rattle.facts.proofs.Tests.{or-false, true-is-false}
 use Rattle.facts.proofs.Numbers.{of-smaller, of-larger}
 use Rattle.ladder.specs.Ladder.{Prices}
 use Rattle.questions.specs.declared.Reference.{Reference}
 use Rattle.questions.specs.declared.Reference.the-variants.{Missing, Price}
-use Rattle.questions.specs.Missing.{present, least, greatest}
+use Rattle.questions.specs.Missing.{least, greatest}
 use Rattle.questions.specs.Checks.{isOff, badPair}
 use Rattle.daybook.specs.declared.Quotes.{Quotes}
 use Rattle.daybook.specs.declared.Traded.{Traded}
 use Rattle.daybook.specs.declared.Day.{Day}
-use Rattle.daybook.specs.Events.{Event, event, History}
+use Rattle.daybook.specs.Events.{Event, History}
 use Rattle.daybook.specs.Kept.{currentOf, lastOf, lowestOf, highestOf}
 use Rattle.daybook.specs.Accepted.{meet, offLadderNumber, crossNumber, eventNumber}
-use Rattle.daybook.specs.Days.{takenClose, opened, quoted, emptied, tradedAt, dayAfter, numberOn, entered, played}
+use Rattle.daybook.specs.Days.{opened, quoted, emptied, tradedAt, dayAfter, numberOn, entered, played}
 use Rattle.daybook.specs.Laws.{QuotesInOrder, TradedInOrder, DayInOrder}
 
 -- a pair that takes in one more price
@@ -29,6 +29,15 @@ pair-kept p Missing Missing e = le-ltb p p (omega arith)
 pair-kept p Missing (Price y) e = true-is-false e
 pair-kept p (Price x) Missing e = true-is-false e
 pair-kept p (Price x) (Price y) e = let f = ltb-false y x e in le-ltb (max p y) (min p x) (omega arith)
+
+-- a price beside the least, and beside the greatest, that took it in
+above-least : (p : ℕ) (low : Reference) → badPair (least (Price p) low) (Price p) ≡ false
+above-least p Missing = le-ltb p p (omega arith)
+above-least p (Price x) = le-ltb p (min p x) (omega arith)
+
+below-greatest : (p : ℕ) (high : Reference) → badPair (Price p) (greatest (Price p) high) ≡ false
+below-greatest p Missing = le-ltb p p (omega arith)
+below-greatest p (Price y) = le-ltb (max p y) p (omega arith)
 
 module _ (l : Prices) (p : ℕ) (on : holds p l ≡ true) where
   price-on : isOff l (Price p) ≡ false
@@ -50,6 +59,8 @@ module _ (l : Prices) (p : ℕ) (on : holds p l ≡ true) where
         lowest-on = least-on (q .lowest) (s .lowest-on);
         highest-on = greatest-on (q .highest) (s .highest-on);
         pair = pair-kept p (q .lowest) (q .highest) (s .pair);
+        from-lowest = above-least p (q .lowest);
+        to-highest = below-greatest p (q .highest);
         current-is-last = λ there. refl;
       }
 
@@ -69,6 +80,8 @@ emptied-in-order l q s =
       lowest-on = s .lowest-on;
       highest-on = s .highest-on;
       pair = s .pair;
+      from-lowest = s .from-lowest;
+      to-highest = s .to-highest;
       current-is-last = λ there. true-is-false (sym there);
     }
 
@@ -180,7 +193,7 @@ fresh-in-order l close =
 
     nothing : QuotesInOrder l (record { current = Missing; last = Missing; lowest = Missing; highest = Missing })
     nothing =
-        record { current-on = refl; last-on = refl; lowest-on = refl; highest-on = refl; pair = refl; current-is-last = λ there. there }
+        record { current-on = refl; last-on = refl; lowest-on = refl; highest-on = refl; pair = refl; from-lowest = refl; to-highest = refl; current-is-last = λ there. refl }
 
 entered-in-order : (l : Prices) (d : Day) (e : Event) → DayInOrder l d → DayInOrder l (entered l d e .day)
 unfolding entered
