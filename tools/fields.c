@@ -8,7 +8,7 @@
 
 /* The fields in the order of the record: four codes of a byte each, then nine
  * prices. */
-enum { SIDE, TYPE, QUEUE, BYTE3, PRICE, FIELDS = 13 };
+enum { SIDE, TYPE, QUEUE, BYTE3, PRICE, NOMINAL = 12, FIELDS };
 
 static const char *const names[FIELDS] = {
     "side", "type", "queue", "byte3", "price", "bid", "ask", "last-bid",
@@ -29,9 +29,33 @@ static const char *const codes[PRICE][NAMED] = {
                [HENDOVITA_NEITHER_QUEUE] = "neither"},
 };
 
-static bool is_required(int field)
+/* A form of line: a whole question, or an order, of which a day gives the
+ * rest; and what is said where a name is none of its fields, or where a field
+ * that is required is not given. */
+struct form {
+    bool is_whole;
+    const char *before_name, *after_name, *missing;
+};
+
+static const struct form question_form = {
+    true, "no field is called ", "",
+    " is not given: side, type, queue and price are required"};
+
+static const struct form order_form = {
+    false, "no field of an order is called ",
+    ": an order has side, type, price and nominal; close, bid, ask, empty and "
+    "trade stand alone",
+    " is not given: side, type and price are required"};
+
+static bool has_field(const struct form *form, int field)
 {
-    return field <= PRICE && field != BYTE3;
+    return form->is_whole || field == SIDE || field == TYPE || field == PRICE
+        || field == NOMINAL;
+}
+
+static bool is_required(const struct form *form, int field)
+{
+    return has_field(form, field) && field <= PRICE && field != BYTE3;
 }
 
 /* Where the four bytes of a price begin. */
@@ -64,7 +88,7 @@ static const char *read_code(int field, struct text value, uint8_t *record)
     return NULL;
 }
 
-static const char *read_price(int field, struct text value, uint8_t *record)
+const char *fields_read_price(struct text value, uint32_t *price)
 {
     static const uint32_t mils_of_last_decimal[4] = {0, 100, 10, 1};
     struct text units, decimals;
@@ -82,36 +106,52 @@ static const char *read_price(int field, struct text value, uint8_t *record)
         + text_number(decimals, 999) * mils_of_last_decimal[decimals.length];
     if (mils > UINT32_MAX)
         return ": prices are at most 4294967.295";
-    hendovita_put_number(record + place_of(field), (uint32_t)mils);
+    *price = (uint32_t)mils;
     return NULL;
 }
 
-static int field_called(struct text name)
+static const char *read_price(int field, struct text value, uint8_t *record)
+{
+    uint32_t price = 0;
+    const char *wrong = fields_read_price(value, &price);
+    hendovita_put_number(record + place_of(field), price);
+    return wrong;
+}
+
+static int field_called(const struct form *form, struct text name)
 {
     int field = 0;
-    while (field < FIELDS && !text_is(name, names[field]))
+    while (field < FIELDS
+           && !(has_field(form, field) && text_is(name, names[field])))
         field++;
     return field;
 }
 
 /* ---- a line ---------------------------------------------------------- */
 
-static bool read_word(const struct text_lines *lines, struct text word,
-                      bool given[FIELDS], uint8_t *record)
+bool fields_has_value(const struct text_lines *lines, struct text word,
+                      struct text value)
+{
+    return value.length > 0
+        || text_wrong(lines, "", word, " has no value after the '='");
+}
+
+static bool read_word(const struct text_lines *lines, const struct form *form,
+                      struct text word, bool given[FIELDS], uint8_t *record)
 {
     struct text name, value;
     if (!text_split(word, '=', &name, &value))
         return text_wrong(lines, "", word,
                           " has no '=': fields are written name=value, "
                           "without blanks");
-    int field = field_called(name);
+    int field = field_called(form, name);
     if (field == FIELDS)
-        return text_wrong(lines, "no field is called ", name, "");
+        return text_wrong(lines, form->before_name, name, form->after_name);
     if (given[field])
         return text_wrong(lines, "", name, " is given twice");
     given[field] = true;
-    if (value.length == 0)
-        return text_wrong(lines, "", word, " has no value after the '='");
+    if (!fields_has_value(lines, word, value))
+        return false;
 
     const char *wrong = field < PRICE ? read_code(field, value, record)
                                       : read_price(field, value, record);
@@ -119,52 +159,52 @@ static bool read_word(const struct text_lines *lines, struct text word,
 }
 
 static bool has_required(const struct text_lines *lines,
-                         const bool given[FIELDS])
+                         const struct form *form, const bool given[FIELDS])
 {
     for (int field = 0; field < FIELDS; field++) {
         struct text name = {names[field], strlen(names[field])};
-        if (is_required(field) && !given[field])
-            return text_wrong(lines, "", name,
-                              " is not given: side, type, queue and price are "
-                              "required");
+        if (is_required(form, field) && !given[field])
+            return text_wrong(lines, "", name, form->missing);
     }
     return true;
 }
 
-/* Takes the first word off. False where nothing but blanks is left. */
-static bool next_word(struct text *rest, struct text *word)
+static enum fields_found read_line(const struct text_lines *lines,
+                                   const struct form *form, uint8_t *record)
 {
-    size_t start = 0;
-    while (start < rest->length
-           && (rest->bytes[start] == ' ' || rest->bytes[start] == '\t'))
-        start++;
-    size_t end = start;
-    while (end < rest->length && rest->bytes[end] != ' '
-           && rest->bytes[end] != '\t')
-        end++;
-    *word = (struct text){rest->bytes + start, end - start};
-    *rest = (struct text){rest->bytes + end, rest->length - end};
-    return word->length > 0;
+    struct text rest, word;
+    bool given[FIELDS] = {false};
+    bool any = false;
+    if (!text_fits(lines))
+        return FIELDS_WRONG;
+    rest = text_before_comment(lines);
+    memset(record, 0, HENDOVITA_QUESTION_BYTES);
+    while (text_word(&rest, &word)) {
+        any = true;
+        if (!read_word(lines, form, word, given, record))
+            return FIELDS_WRONG;
+    }
+    if (!any)
+        return FIELDS_NONE;
+    return has_required(lines, form, given) ? FIELDS_QUESTION : FIELDS_WRONG;
 }
 
 enum fields_found fields_read(const struct text_lines *lines,
                               uint8_t record[HENDOVITA_QUESTION_BYTES])
 {
-    struct text rest, comment, word;
-    bool given[FIELDS] = {false};
-    bool any = false;
-    if (!text_fits(lines))
-        return FIELDS_WRONG;
-    text_split(text_line(lines), '#', &rest, &comment);
-    memset(record, 0, HENDOVITA_QUESTION_BYTES);
-    while (next_word(&rest, &word)) {
-        any = true;
-        if (!read_word(lines, word, given, record))
-            return FIELDS_WRONG;
-    }
-    if (!any)
-        return FIELDS_NONE;
-    return has_required(lines, given) ? FIELDS_QUESTION : FIELDS_WRONG;
+    return read_line(lines, &question_form, record);
+}
+
+enum fields_found fields_read_order(const struct text_lines *lines,
+                                    struct fields_order *order)
+{
+    uint8_t record[HENDOVITA_QUESTION_BYTES] = {0};
+    enum fields_found found = read_line(lines, &order_form, record);
+    order->side = record[SIDE];
+    order->type = record[TYPE];
+    order->price = hendovita_get_number(record + place_of(PRICE));
+    order->nominal = hendovita_get_number(record + place_of(NOMINAL));
+    return found;
 }
 
 /* ---- printing -------------------------------------------------------- */
@@ -190,7 +230,7 @@ void fields_print(const uint8_t record[HENDOVITA_QUESTION_BYTES])
         uint32_t value = field < PRICE
             ? record[field]
             : hendovita_get_number(record + place_of(field));
-        if (value == 0 && !is_required(field))
+        if (value == 0 && !is_required(&question_form, field))
             continue;
         printf("%s%s=", field == 0 ? "" : " ", names[field]);
         print_value(field, value);

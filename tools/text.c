@@ -48,8 +48,15 @@ struct text text_line(const struct text_lines *lines)
     return (struct text){lines->bytes, lines->length};
 }
 
-bool text_wrong(const struct text_lines *lines, const char *before,
-                struct text word, const char *after)
+struct text text_before_comment(const struct text_lines *lines)
+{
+    struct text before, comment;
+    text_split(text_line(lines), '#', &before, &comment);
+    return before;
+}
+
+void text_quote(const struct text_lines *lines, const char *before,
+                struct text word)
 {
     print_place(lines);
     fprintf(stderr, "%s'", before);
@@ -60,8 +67,33 @@ bool text_wrong(const struct text_lines *lines, const char *before,
         else
             fprintf(stderr, "\\x%02x", byte);
     }
-    fprintf(stderr, "'%s\n", after);
+    putc('\'', stderr);
+}
+
+bool text_wrong(const struct text_lines *lines, const char *before,
+                struct text word, const char *after)
+{
+    text_quote(lines, before, word);
+    fprintf(stderr, "%s\n", after);
     return false;
+}
+
+static bool is_blank(char byte)
+{
+    return byte == ' ' || byte == '\t';
+}
+
+bool text_word(struct text *rest, struct text *word)
+{
+    size_t start = 0;
+    while (start < rest->length && is_blank(rest->bytes[start]))
+        start++;
+    size_t end = start;
+    while (end < rest->length && !is_blank(rest->bytes[end]))
+        end++;
+    *word = (struct text){rest->bytes + start, end - start};
+    *rest = (struct text){rest->bytes + end, rest->length - end};
+    return word->length > 0;
 }
 
 bool text_split(struct text whole, char byte, struct text *before,

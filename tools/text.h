@@ -36,8 +36,16 @@ bool text_fits(const struct text_lines *lines);
 /* The line, where it fits. */
 struct text text_line(const struct text_lines *lines);
 
+/* The same up to the first '#'. */
+struct text text_before_comment(const struct text_lines *lines);
+
+/* Begins a message on the line, which the caller ends: before, and then the
+ * word in quotes, its unprintable bytes as \xNN. */
+void text_quote(const struct text_lines *lines, const char *before,
+                struct text word);
+
 /* Says what is wrong with the line: the word stands in quotes between before
- * and after, its unprintable bytes as \xNN. Always false. */
+ * and after. Always false. */
 bool text_wrong(const struct text_lines *lines, const char *before,
                 struct text word, const char *after);
 
@@ -45,6 +53,9 @@ bool text_wrong(const struct text_lines *lines, const char *before,
  * after is empty, and the answer is false. */
 bool text_split(struct text whole, char byte, struct text *before,
                 struct text *after);
+
+/* Takes the first word off. False where nothing but blanks is left. */
+bool text_word(struct text *rest, struct text *word);
 
 bool text_is(struct text text, const char *string);
 
