@@ -40,9 +40,8 @@ $(PRICECHECK): $(RATTLE) Makefile
 	mkdir -p build
 	cp target/bin/pricecheck $@
 
-build/ask: $(HEADER) $(ASK) $(wildcard tools/*.h)
-	mkdir -p build
-	$(CC) $(STRICT) $(CFLAGS) -Iinclude $(ASK) -o $@
+build/ask: $(LIBRARY) $(HEADER) $(ASK) $(wildcard tools/*.h)
+	$(CC) $(STRICT) $(CFLAGS) -Iinclude $(ASK) $(LIBRARY) -o $@
 
 build/host-tests: $(LIBRARY) $(HEADER) $(TESTS) $(PLAIN) $(PLAIN_HEADERS) $(wildcard host/tests/*.h)
 	$(CC) $(STRICT) $(CFLAGS) $(INCLUDES) $(TESTS) $(PLAIN) $(LIBRARY) -o $@

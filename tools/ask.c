@@ -1,11 +1,13 @@
 /*
  * Questions and answers in words: readable questions into records and back,
- * and the lines of pricecheck into sentences.
+ * readable days into the records of their orders, and the lines of pricecheck
+ * into sentences.
  */
 #include <errno.h>
 #include <stdlib.h>
 #include <string.h>
 
+#include "feed.h"
 #include "fields.h"
 #include "text.h"
 
@@ -38,7 +40,7 @@ static void print_left(FILE *to, unsigned left)
             left == 1 ? "byte is" : "bytes are");
 }
 
-/* ---- write ----------------------------------------------------------- */
+/* ---- write and feed -------------------------------------------------- */
 
 /* The records of the questions so far; the output gets all of them or none. */
 struct records {
@@ -62,13 +64,16 @@ static bool add(struct records *records,
     return true;
 }
 
-/* Every line is read, so that each that is wrong gets its message. */
-static bool gather(struct text_lines *lines, struct records *records)
+/* Every line is read, so that each that is wrong gets its message. The lines
+ * are those of a day, or questions where that is NULL. */
+static bool gather(struct text_lines *lines, struct hendovita_day *day,
+                   struct records *records)
 {
     uint8_t record[HENDOVITA_QUESTION_BYTES];
     bool good = true;
     while (text_next(lines)) {
-        enum fields_found found = fields_read(lines, record);
+        enum fields_found found = day == NULL ? fields_read(lines, record)
+                                              : feed_read(lines, day, record);
         if (found == FIELDS_WRONG)
             good = false;
         if (found == FIELDS_QUESTION && !add(records, record))
@@ -77,7 +82,7 @@ static bool gather(struct text_lines *lines, struct records *records)
     return ended(lines->file, lines->name) && good;
 }
 
-static bool write_records(const char *path)
+static bool write_records(const char *path, struct hendovita_day *day)
 {
     struct text_lines lines = {.file = stdin, .name = input};
     struct records records = {NULL, 0, 0};
@@ -87,7 +92,7 @@ static bool write_records(const char *path)
         if (lines.file == NULL)
             return failed(path, "cannot be opened");
     }
-    bool good = gather(&lines, &records);
+    bool good = gather(&lines, day, &records);
     if (path != NULL)
         fclose(lines.file);
     if (good && records.length > 0)
@@ -95,6 +100,17 @@ static bool write_records(const char *path)
     good = good && written();
     free(records.bytes);
     return good;
+}
+
+static bool write_questions(const char *path)
+{
+    return write_records(path, NULL);
+}
+
+static bool write_orders(const char *path)
+{
+    struct hendovita_day day = hendovita_open_day(0).day;
+    return write_records(path, &day);
 }
 
 /* ---- show ------------------------------------------------------------ */
@@ -218,7 +234,9 @@ int main(int argc, char **argv)
     bool good;
     setvbuf(stderr, NULL, _IOLBF, BUFSIZ); /* a message in one piece */
     if (strcmp(command, "write") == 0 && argc <= 3) {
-        good = write_records(argc == 3 ? argv[2] : NULL);
+        good = write_questions(argc == 3 ? argv[2] : NULL);
+    } else if (strcmp(command, "feed") == 0 && argc <= 3) {
+        good = write_orders(argc == 3 ? argv[2] : NULL);
     } else if (strcmp(command, "show") == 0 && argc == 2) {
         good = show_answers();
     } else if (strcmp(command, "read") == 0 && argc == 2) {
@@ -226,6 +244,8 @@ int main(int argc, char **argv)
     } else {
         fputs("usage:\n"
               "  ask write [FILE]  readable questions into 40-byte records\n"
+              "  ask feed [FILE]   a day, line by line, into the records of "
+              "its orders\n"
               "  ask show          lines of pricecheck into words\n"
               "  ask read          40-byte records into readable questions\n",
               stderr);
