@@ -1,11 +1,11 @@
 // A day book, event by event, and orders that are filled from it, worked out by hand. Low(R) and High(R) stand beside each order.
-use super::orders::BUY;
-use super::orders::LIMIT;
-use super::orders::SELL;
 use super::reporting;
 use daybook::Day;
 use daybook::Entered;
 use dayquestion::Order;
+use orders::BUY;
+use orders::LIMIT;
+use orders::SELL;
 use questions::Reference;
 use questions::encoding;
 ghost use mathlib.Core.Path.{_≡_};

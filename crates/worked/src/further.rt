@@ -1,16 +1,16 @@
 // Lines beyond those of document 01, worked out by hand from its rules. Low(R) and High(R) stand beside each.
-use super::orders::BOTH;
-use super::orders::BUY;
-use super::orders::BUY_ONLY;
-use super::orders::ENHANCED;
-use super::orders::LIMIT;
-use super::orders::NEITHER;
-use super::orders::OPENING;
-use super::orders::Order;
-use super::orders::SELL;
-use super::orders::SELL_ONLY;
-use super::orders::SPECIAL;
 use super::reporting;
+use orders::BOTH;
+use orders::BUY;
+use orders::BUY_ONLY;
+use orders::ENHANCED;
+use orders::LIMIT;
+use orders::NEITHER;
+use orders::OPENING;
+use orders::Order;
+use orders::SELL;
+use orders::SELL_ONLY;
+use orders::SPECIAL;
 use trades::judge_trade;
 
 // By the previous close, also for the nine-fold rule: Low(1.00) is 0.76, High(1.00) 1.24. Without one the nominal does not step in.

@@ -1,6 +1,5 @@
 // Worked prices: what the library finds for each line of document 01, "Prices worked out", for the examples of source document 004, for
 // the programs that would look finished, and for some lines more, compared with what is due. Each line ends with right or WRONG.
-mod orders; // orders.rt: an order by its fields, and the bytes of its question
 mod reporting; // reporting.rt: a line of output, right or WRONG
 mod paper; // paper.rt: lines A to P, and source document 004
 mod wrong_programs; // wrong_programs.rt: answers of wrong programs that must not come out

@@ -1,19 +1,19 @@
 // Lines A to P of document 01, and both examples of source document 004.
 //
 // Each order of lines A to O is tried at the lowest and the highest price shown, and at the next prices outside.
-use super::orders::BOTH;
-use super::orders::BUY;
-use super::orders::BUY_ONLY;
-use super::orders::ENHANCED;
-use super::orders::LIMIT;
-use super::orders::NEITHER;
-use super::orders::Order;
-use super::orders::SELL;
-use super::orders::SELL_ONLY;
 use super::reporting;
 use super::reporting::outside;
 use limits::lower_limit;
 use limits::upper_limit;
+use orders::BOTH;
+use orders::BUY;
+use orders::BUY_ONLY;
+use orders::ENHANCED;
+use orders::LIMIT;
+use orders::NEITHER;
+use orders::Order;
+use orders::SELL;
+use orders::SELL_ONLY;
 use trades::judge_trade;
 
 pub(crate) fn a_to_d() {

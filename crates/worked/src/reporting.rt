@@ -2,15 +2,15 @@
 //
 // A function that returns nothing writes to standard output, and its contract has nothing to state: what is written is the system's. The
 // stored output is compared by the gate.
-use super::orders::Order;
-use super::orders::question;
 use judging::Answer;
 use ladder::Found;
 use libc::STDOUT_FILENO;
+use orders::Order;
+use orders::comparing::is_due;
+use orders::comparing::is_same;
+use orders::comparing::price_of;
+use orders::question;
 ghost use mathlib.Core.Path.{_≡_};
-ghost use mathlib.Core.Bool.{_&&_};
-ghost use lib.Dec.{eqb};
-ghost use Rattle.ladder.specs.Search.{orElse};
 
 fn say(word: &[u8]) {
     io::write_all(STDOUT_FILENO, word);
@@ -34,13 +34,6 @@ fn say_whether(is_right: bool) {
     } else {
         say(b" WRONG\n");
     }
-}
-
-// Whether two answers are the same.
-fn is_same(found: Answer, due: Answer) -> bool
-    ensures { λ r. ⌜ r ≡ (eqb (found .number) (due .number) && eqb (found .lowest) (due .lowest) && eqb (found .highest) (due .highest)) ⌝ }
-{
-    (found.number == due.number) & (found.lowest == due.lowest) & (found.highest == due.highest)
 }
 
 // An answer at a price, and the one that is due.
@@ -118,23 +111,6 @@ pub(crate) fn answer(
         highest: highest,
     };
     compare(asked, price, found, due);
-}
-
-// The price that was found, or 0 for none, which is no ladder price.
-fn price_of(found: Found) -> u32
-    ensures { λ r. ⌜ r ≡ orElse 0 found ⌝ }
-{
-    match found {
-        Found::Price(price) => price,
-        Found::Nothing => 0,
-    }
-}
-
-// Whether a number is the one that is due.
-fn is_due(found: u32, due: u32) -> bool
-    ensures { λ r. ⌜ r ≡ eqb found due ⌝ }
-{
-    found == due
 }
 
 // What was found, and what is due.

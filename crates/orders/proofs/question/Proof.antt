@@ -1,7 +1,7 @@
 -- The codes, the price and the references, and the bytes of them all.
 use borrow.Author.Needs.{needs}
-use Rattle.worked.proofs.orders.question.Statement.{statement}
-use Rattle.worked.proofs.orders.question.Tie as tie
+use Rattle.orders.proofs.question.Statement.{statement}
+use Rattle.orders.proofs.question.Tie as tie
 
 returns : tie.Need-returns
 returns c = rw (c .encode .ensures, c .before .references-of .ensures)

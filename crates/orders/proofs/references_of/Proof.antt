@@ -1,7 +1,7 @@
 -- Reference by reference.
 use borrow.Author.Needs.{needs}
-use Rattle.worked.proofs.orders.references_of.Statement.{statement}
-use Rattle.worked.proofs.orders.references_of.Tie as tie
+use Rattle.orders.proofs.references_of.Statement.{statement}
+use Rattle.orders.proofs.references_of.Tie as tie
 
 returns : tie.Need-returns
 returns c =

@@ -3,7 +3,7 @@ use Prim.Native.Nat.{ℕ}
 use Rattle.questions.specs.declared.References.{References}
 use Rattle.questions.specs.declared.Question.{Question}
 use Rattle.questions.specs.Missing.{referenceOf}
-use Rattle.worked.specs.declared.orders.Order.{Order}
+use Rattle.orders.specs.declared.Order.{Order}
 
 -- an order by its codes, with every reference missing
 abbrev pub bare : ℕ → ℕ → ℕ → Order

@@ -1,4 +1,7 @@
-// An order by its fields, and the bytes of the question that it stands for at a price.
+// What the program `worked` tries, and whether it is right: an order by its fields, the bytes of the question that it stands for at a price, and
+// answers compared with those that are due.
+pub mod comparing; // comparing.rt: whether what is found is what is due
+
 use questions::Codes;
 use questions::QUESTION_BYTES;
 use questions::Question;
@@ -7,53 +10,53 @@ use questions::encoding;
 use questions::missing;
 ghost use mathlib.Core.Path.{_≡_};
 ghost use Rattle.questions.specs.Record.{bytesOf};
-ghost use Rattle.worked.specs.Orders.{bare, references, asked};
+ghost use Rattle.orders.specs.Orders.{bare, references, asked};
 
 // A bid and an ask.
-pub(crate) struct Quotes {
+pub struct Quotes {
     pub bid: u32,
     pub ask: u32,
 }
 
 // The day's low and high.
-pub(crate) struct Day {
+pub struct DayRange {
     pub low: u32,
     pub high: u32,
 }
 
 // All of a question but its order price. Prices are mils; 0 is a missing reference.
-pub(crate) struct Order {
+pub struct Order {
     pub codes: Codes,
     pub current: Quotes,
     pub last: Quotes,
     pub close: u32,
-    pub day: Day,
+    pub day: DayRange,
     pub nominal: u32,
 }
 
-pub(crate) const BUY: u8 = 1;
+pub const BUY: u8 = 1;
 
-pub(crate) const SELL: u8 = 2;
+pub const SELL: u8 = 2;
 
-pub(crate) const LIMIT: u8 = 1;
+pub const LIMIT: u8 = 1;
 
-pub(crate) const ENHANCED: u8 = 2;
+pub const ENHANCED: u8 = 2;
 
-pub(crate) const SPECIAL: u8 = 3;
+pub const SPECIAL: u8 = 3;
 
-pub(crate) const OPENING: u8 = 1;
+pub const OPENING: u8 = 1;
 
-pub(crate) const BOTH: u8 = 2;
+pub const BOTH: u8 = 2;
 
-pub(crate) const BUY_ONLY: u8 = 3;
+pub const BUY_ONLY: u8 = 3;
 
-pub(crate) const SELL_ONLY: u8 = 4;
+pub const SELL_ONLY: u8 = 4;
 
-pub(crate) const NEITHER: u8 = 5;
+pub const NEITHER: u8 = 5;
 
 impl Order {
     // With no reference.
-    pub(crate) fn new(side: u8, order_type: u8, queue: u8) -> Order
+    pub fn new(side: u8, order_type: u8, queue: u8) -> Order
         ensures { λ r. ⌜ r ≡ bare side «order_type» queue ⌝ }
     {
         Order {
@@ -66,13 +69,13 @@ impl Order {
             current: Quotes { bid: 0, ask: 0 },
             last: Quotes { bid: 0, ask: 0 },
             close: 0,
-            day: Day { low: 0, high: 0 },
+            day: DayRange { low: 0, high: 0 },
             nominal: 0,
         }
     }
 
     // With this bid and ask.
-    pub(crate) fn quotes(mut self, bid: u32, ask: u32) -> Order
+    pub fn quotes(mut self, bid: u32, ask: u32) -> Order
         ensures { λ r. ⌜ r ≡ record { codes = self .codes; current = record { bid = bid; ask = ask }; last = self .last; close = self .close; day = self .day; nominal = self .nominal } ⌝ }
     {
         self.current.bid = bid;
@@ -81,7 +84,7 @@ impl Order {
     }
 
     // With this last bid and last ask.
-    pub(crate) fn last_quotes(mut self, bid: u32, ask: u32) -> Order
+    pub fn last_quotes(mut self, bid: u32, ask: u32) -> Order
         ensures { λ r. ⌜ r ≡ record { codes = self .codes; current = self .current; last = record { bid = bid; ask = ask }; close = self .close; day = self .day; nominal = self .nominal } ⌝ }
     {
         self.last.bid = bid;
@@ -90,7 +93,7 @@ impl Order {
     }
 
     // With this previous close.
-    pub(crate) fn close(mut self, close: u32) -> Order
+    pub fn close(mut self, close: u32) -> Order
         ensures { λ r. ⌜ r ≡ record { codes = self .codes; current = self .current; last = self .last; close = close; day = self .day; nominal = self .nominal } ⌝ }
     {
         self.close = close;
@@ -98,7 +101,7 @@ impl Order {
     }
 
     // With this day low and day high.
-    pub(crate) fn day(mut self, low: u32, high: u32) -> Order
+    pub fn day(mut self, low: u32, high: u32) -> Order
         ensures { λ r. ⌜ r ≡ record { codes = self .codes; current = self .current; last = self .last; close = self .close; day = record { low = low; high = high }; nominal = self .nominal } ⌝ }
     {
         self.day.low = low;
@@ -107,7 +110,7 @@ impl Order {
     }
 
     // With this nominal price.
-    pub(crate) fn nominal(mut self, nominal: u32) -> Order
+    pub fn nominal(mut self, nominal: u32) -> Order
         ensures { λ r. ⌜ r ≡ record { codes = self .codes; current = self .current; last = self .last; close = self .close; day = self .day; nominal = nominal } ⌝ }
     {
         self.nominal = nominal;
@@ -132,7 +135,7 @@ fn references_of(order: Order) -> References
 }
 
 // The bytes of an order at a price, as a question.
-pub(crate) fn question(order: Order, price: u32) -> [u8; QUESTION_BYTES]
+pub fn question(order: Order, price: u32) -> [u8; QUESTION_BYTES]
     ensures { λ r. ⌜ r ≡ bytesOf (asked order price) ⌝ }
 {
     let codes = order.codes;
