@@ -26,7 +26,7 @@ all: $(LIBRARY) $(PRICECHECK) build/ask
 
 # The batch and the other calls are an object each.
 $(LIBRARY): $(RATTLE) Makefile
-	@echo 'proving and building the library .. (about two minutes from scratch)'
+	@echo 'proving and building the library .. (about two and a half minutes from scratch)'
 	rt staticlib batch
 	rt staticlib interface
 	mkdir -p build
