@@ -15,6 +15,7 @@ pub(crate) fn count(table: &[u32]) -> usize
 }
 
 // Band k of a table.
+#[tactic(auto, using(crate::proofs::Tables::Numbers::bands_count))]
 pub(crate) fn band_at(table: &[u32], k: usize) -> Band
     requires { k < length (bands_of table.now) }
     ensures { result ≡ get_or (bands_of table.now) k no_band }

@@ -19,7 +19,7 @@ ghost use Rattle.ladder.specs.Places.{price_at, place_of};
 ghost use Rattle.ladder.specs.Spreads.{spreads_up, spreads_down};
 
 // A band of a table: the prices over `bottom`, up to `top`, a `spread` apart.
-#[derive(Drop)]
+#[derive(Clone, Copy)]
 pub struct Band {
     pub bottom: u32,
     pub top: u32,
@@ -28,14 +28,14 @@ pub struct Band {
 
 // A ladder price, or nothing: for a place above the last, for a step or a limit from a price off the ladder, or where no ladder
 // price meets a bound. Each call has one of these reasons.
-#[derive(Drop)]
+#[derive(Clone, Copy)]
 pub enum Found {
     Price(u32),
     Nothing,
 }
 
 // The place of a ladder price; a price off the ladder has none.
-#[derive(Drop)]
+#[derive(Clone, Copy)]
 pub enum Place {
     At(u32),
     OffLadder,

@@ -49,8 +49,8 @@ pub fn price_at(table: &[u32], place: u32) -> Found
 
 // How many places lie below the band with this index.
 fn places_below(table: &[u32], index: usize) -> u32
-    requires t { T (is_table table.now) }
-    requires index_in_bounds { index < length (bands_of table.now) }
+    requires well_formed { T (is_table table.now) }
+    requires index { index < length (bands_of table.now) }
     ensures { result ≡ places_below index (bands_of table.now) }
 {
     let mut places: u32 = 0;

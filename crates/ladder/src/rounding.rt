@@ -9,7 +9,7 @@ use super::numbers::product;
 use super::{Found, bands, search, table};
 
 // Two neighbouring ladder prices.
-#[derive(Drop)]
+#[derive(Clone, Copy)]
 pub(crate) struct Gap {
     pub below: u32,
     pub above: u32,
@@ -17,9 +17,9 @@ pub(crate) struct Gap {
 
 // The neighbours between which a threshold inside the ladder lands: scale * below < y <= scale * above.
 fn between(table: &[u32], scale: u32, y: u64) -> Gap
-    requires t { T (is_table table.now) }
-    requires table_bound { scale * first_price (prices_of table.now) < y }
-    requires y_bound { y ≤ scale * last_price (prices_of table.now) }
+    requires well_formed { T (is_table table.now) }
+    requires over_the_first { scale * first_price (prices_of table.now) < y }
+    requires up_to_the_last { y ≤ scale * last_price (prices_of table.now) }
     ensures { Between scale y (prices_of table.now) result }
 {
     let k = search::bands_below(table, scale, y);

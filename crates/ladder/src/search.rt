@@ -7,7 +7,7 @@ use super::bands;
 use super::numbers::product;
 
 // Where a price stands on a ladder.
-#[derive(Drop)]
+#[derive(Clone, Copy)]
 pub(crate) enum Standing {
     // In the band of this index.
     In(usize),

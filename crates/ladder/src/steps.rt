@@ -10,8 +10,8 @@ use super::{Found, bands, search, turns};
 
 // The price n spreads above a price of the band with this index.
 fn walk_up(table: &[u32], index: usize, price: u32, n: u64) -> u32
-    requires t { T (is_table table.now) }
-    requires stands_in { StandsIn (bands_of table.now) index price }
+    requires well_formed { T (is_table table.now) }
+    requires stands { StandsIn (bands_of table.now) index price }
     ensures { result ≡ times n (spread_up (prices_of table.now)) price }
 {
     let last = bands::count(table) - 1;
@@ -39,8 +39,8 @@ fn walk_up(table: &[u32], index: usize, price: u32, n: u64) -> u32
 
 // The price n spreads below a price of the band with this index.
 fn walk_down(table: &[u32], index: usize, price: u32, n: u64) -> u32
-    requires t { T (is_table table.now) }
-    requires stands_in { StandsIn (bands_of table.now) index price }
+    requires well_formed { T (is_table table.now) }
+    requires stands { StandsIn (bands_of table.now) index price }
     ensures { result ≡ times n (spread_down (prices_of table.now)) price }
 {
     let mut k = index;

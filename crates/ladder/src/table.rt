@@ -72,8 +72,8 @@ const PHASE_1: [Band; 12] = [
 
 // The Phase 1 table laid out as plain numbers, for the calls that are lent a table.
 pub fn phase_1() -> [u32; 36]
-    ensures result_value { bands_of result ≡ phase1 }
-    ensures t { T (is_table result) }
+    ensures bands { bands_of result ≡ phase1 }
+    ensures well_formed { T (is_table result) }
 {
     let bands = PHASE_1;
     let mut numbers = [0u32; 36];

@@ -3,7 +3,7 @@ ghost use Rattle.std.specs.Prelude.{◌≡◌, ◌<◌};
 ghost use Rattle.ladder.specs.Arithmetic.{turn_of};
 
 // What a walk does in a band.
-#[derive(Drop)]
+#[derive(Clone, Copy)]
 pub(crate) enum Turn {
     // It ends in the band, so many mils on.
     Ends(u32),

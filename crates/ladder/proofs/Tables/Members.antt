@@ -21,8 +21,8 @@ use Rattle.ladder.proofs.Tables.Chain.{Whole, Chain, rungs_entry, rungs_past}
 use Rattle.ladder.proofs.Tables.Table.{Index, index_of, table_facts}
 
 -- a multiple of the spread over the bottom is in the band
-in_band : (b : Band) → Whole b → (p i : ℕ) → 0 < i → i ≤ width b → p ≡ i * b.spread + b.bottom → T (in_band p b)
-in_band b w p i pos h e =
+in_band_lem : (b : Band) → Whole b → (p i : ℕ) → 0 < i → i ≤ width b → p ≡ i * b.spread + b.bottom → T (in_band p b)
+in_band_lem b w p i pos h e =
     let over : b.bottom < p = omega (arith, mul-pos pos w.spreads) in
     let under : p ≤ b.top = omega (arith, w.divides, mul-le-mul_right b.spread h) in
     let multiple : (p - b.bottom) % b.spread ≡ 0 = rw (e, add-sub_cancel, mul-mod_left) refl in
@@ -51,7 +51,7 @@ module _ (b : Band) (w : Whole b) (r : List ℕ) (p : ℕ) where
 
       go : (k : ℕ) → price_at k list ≡ Price p → Dec (k ≤ width b) → (p ≡ b.bottom) ⊎ (T (in_band p b) ⊎ T (holds p (b.top ∷ r)))
       go zero e (yes h) = inl (omega (arith, at 0 h e))
-      go (suc k) e (yes h) = inr (inl (in_band b w p (suc k) (omega arith) h (at (suc k) h e)))
+      go (suc k) e (yes h) = inr (inl (in_band_lem b w p (suc k) (omega arith) h (at (suc k) h e)))
       go k e (no h) =
           inr
           (inr
@@ -70,7 +70,7 @@ module _ (b : Band) (w : Whole b) (r : List ℕ) (p : ℕ) where
       (rungs_past b.spread b.bottom (width b) r b.top e.0 (width b + e.0) (sym w.divides) refl ∙ e.1)
 
   top_in_band : p ≡ b.top → T (in_band p b)
-  top_in_band e = in_band b w p (width b) (wide (eq-zero-or-pos (width b))) (le_refl (width b)) (e ∙ sym w.divides)
+  top_in_band e = in_band_lem b w p (width b) (wide (eq-zero-or-pos (width b))) (le_refl (width b)) (e ∙ sym w.divides)
     where
       wide : (width b ≡ 0) ⊎ (0 < width b) → 0 < width b
       wide = ⊎_elim (λ z. let u : 0 * b.spread + b.bottom ≡ b.top = rw z at w.divides in omega (arith, w.rises)) (λ h. h)

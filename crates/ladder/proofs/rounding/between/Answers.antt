@@ -1,0 +1,51 @@
+-- The one division: a threshold inside the ladder falls between two neighbours of the band where it lands.
+use Rattle.std.proofs.Common.{◌+◌, ◌-◌, ◌*◌, ◌/◌, ◌≤◌, arith}
+use Rattle.ladder.specs.Layout.{bands_of}
+use Rattle.ladder.proofs.Tables.Gaps.{scaled, inside, divisor, starts_below, gap_fits, spreads_fit, is_between}
+use Rattle.ladder.proofs.rounding.between.Goals as goal
+
+pub band_at-band-requires : goal.band_at-band-requires
+band_at-band-requires c =
+    inside (bands_of c.args.table.now) c.requires.well_formed c.args.scale c.args.y c.requires.over_the_first c.requires.up_to_the_last
+    c.bands_below-k.result c.bands_below-k.ensures
+
+pub overflow_sub-spreads-2 : goal.overflow_sub-spreads-2
+overflow_sub-spreads-2 c =
+    let below = starts_below (bands_of c.args.table.now) c.requires.well_formed c.args.scale c.args.y c.requires.over_the_first
+    c.requires.up_to_the_last c.bands_below-k.result c.bands_below-k.ensures c.band_at-band.result c.band_at-band.ensures in
+    omega (arith, c.product.ensures)
+
+pub nonzero_div-spreads : goal.nonzero_div-spreads
+nonzero_div-spreads c =
+    let t = bands_of c.args.table.now in
+    let positive = divisor t c.requires.well_formed c.args.scale c.args.y c.requires.over_the_first c.requires.up_to_the_last
+    c.bands_below-k.result c.bands_below-k.ensures c.band_at-band.result c.band_at-band.ensures in
+    let scale_positive = scaled t c.requires.well_formed c.args.scale c.args.y c.requires.over_the_first c.requires.up_to_the_last in
+    omega (arith, c.product-2.ensures, positive, scale_positive)
+
+-- the lower neighbour, and the upper one, lie within the band
+pub overflow_add-result : goal.overflow_add-result
+overflow_add-result c =
+    let gap = gap_fits (bands_of c.args.table.now) c.requires.well_formed c.args.scale c.args.y c.requires.over_the_first
+    c.requires.up_to_the_last c.bands_below-k.result c.bands_below-k.ensures c.band_at-band.result c.band_at-band.ensures in
+    let fits = rw (← c.product.ensures, ← c.product-2.ensures) at gap in
+    omega (arith, fits)
+
+pub overflow_add-below : goal.overflow_add-below
+overflow_add-below c = omega (arith, overflow_add-result c)
+
+pub overflow_mul-below : goal.overflow_mul-below
+overflow_mul-below c = omega (arith, overflow_add-result c)
+
+pub overflow_cast-below : goal.overflow_cast-below
+overflow_cast-below c =
+    let some = spreads_fit (bands_of c.args.table.now) c.requires.well_formed c.args.scale c.args.y c.requires.over_the_first
+    c.requires.up_to_the_last c.bands_below-k.result c.bands_below-k.ensures c.band_at-band.result c.band_at-band.ensures in
+    let fits = rw (← c.product.ensures, ← c.product-2.ensures) at some in
+    omega (arith, overflow_add-result c, fits)
+
+pub returns : goal.returns
+returns c =
+    rw (c.product.ensures, c.product-2.ensures)
+    (is_between (bands_of c.args.table.now) c.requires.well_formed c.args.scale c.args.y c.requires.over_the_first
+    c.requires.up_to_the_last c.bands_below-k.result c.bands_below-k.ensures c.band_at-band.result c.band_at-band.ensures)

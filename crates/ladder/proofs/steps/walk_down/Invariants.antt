@@ -1,0 +1,12 @@
+-- It stands in band k, and the spreads that are left lead where all lead.
+use Rattle.ladder.specs.Layout.{bands_of, prices_of}
+use Rattle.ladder.specs.Spreads.{spread_down}
+use Rattle.ladder.proofs.Tables.Walks.{Walking}
+use Rattle.ladder.proofs.steps.walk_down.Given as goal
+
+abbrev pub invariant-loop-mils : goal.invariant-loop-mils
+invariant-loop-mils l = Walking (spread_down (prices_of l.table)) (bands_of l.table) l.price l.n l.k l.at l.left
+
+-- the bands that are left
+abbrev pub decreases-loop-mils : goal.decreases-loop-mils
+decreases-loop-mils l = l.k
