@@ -13,7 +13,7 @@ ghost use Rattle.limits.specs.Limits.{five_percent, percent_lower_found, percent
 use ladder::Found;
 
 // A percentage below and above a reference r: `lower` * r, and `upper` * r, against `scale` times a price.
-#[derive(Drop)]
+#[derive(Clone, Copy)]
 pub struct Percentage {
     pub scale: u32,
     pub lower: u32,

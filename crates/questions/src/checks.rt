@@ -18,6 +18,7 @@ pub fn is_off(table: &[u32], reference: Reference) -> bool
 }
 
 // Whether any of the eight is.
+#[tactic(auto, unfolding(crate::specs::Checks::any_off))]
 pub fn any_off(table: &[u32], references: References) -> bool
     requires { T (is_table table.now) }
     ensures { result ≡ any_off (prices_of table.now) references }

@@ -6,6 +6,7 @@ ghost use Rattle.questions.specs.Record.{question_bytes, codes_of, references_of
 
 use super::{Codes, Decoded, QUESTION_BYTES, Question, Reference, References, missing};
 
+#[tactic(auto, unfolding(crate::specs::Record::codes_of))]
 fn codes_of(s: &[u8]) -> Codes
     requires { length s.now ≡ question_bytes }
     ensures { result ≡ codes_of s.now }
@@ -25,6 +26,7 @@ fn reference_at(s: &[u8], at: usize) -> Reference
     missing::reference_of(little_endian::number_at(s, at))
 }
 
+#[tactic(auto, unfolding(crate::specs::Record::references_of))]
 fn references_of(s: &[u8]) -> References
     requires { length s.now ≡ question_bytes }
     ensures { result ≡ references_of s.now }

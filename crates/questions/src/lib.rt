@@ -10,14 +10,14 @@ pub mod checks; // checks.rt: references off the ladder, and pairs of a low and 
 pub const QUESTION_BYTES: usize = 40;
 
 // A reference: a price, or missing.
-#[derive(Drop)]
+#[derive(Clone, Copy)]
 pub enum Reference {
     Missing,
     Price(u32),
 }
 
 // The eight references of a question.
-#[derive(Drop)]
+#[derive(Clone, Copy)]
 pub struct References {
     pub current_bid: Reference,
     pub current_ask: Reference,
@@ -30,7 +30,7 @@ pub struct References {
 }
 
 // The code numbers of a question, as they stand in its first four bytes.
-#[derive(Drop)]
+#[derive(Clone, Copy)]
 pub struct Codes {
     pub side: u8,
     pub order_type: u8,
@@ -40,7 +40,7 @@ pub struct Codes {
 }
 
 // A question. The order price is a number like any other: it may be 0, or off the ladder.
-#[derive(Drop)]
+#[derive(Clone, Copy)]
 pub struct Question {
     pub codes: Codes,
     pub price: u32,
@@ -48,7 +48,7 @@ pub struct Question {
 }
 
 // What a slice of bytes holds.
-#[derive(Drop)]
+#[derive(Clone, Copy)]
 pub enum Decoded {
     Asked(Question),
     // Not as many bytes as a question has.
