@@ -8,7 +8,7 @@ pub mod readings; // readings.rt: the reading of a question
 use questions::Reference;
 
 // A permitted range: its lowest and highest price, and the reference of the nine-fold rule.
-#[derive(Drop)]
+#[derive(Clone, Copy)]
 pub struct Range {
     pub lowest: u32,
     pub highest: u32,
@@ -16,7 +16,7 @@ pub struct Range {
 }
 
 // Why there is no range, with document 01's number.
-#[derive(Drop)]
+#[derive(Clone, Copy)]
 pub enum Refusal {
     // 2: side, order type or queue code unknown, or byte 3 not zero.
     UnknownCode,
@@ -29,7 +29,7 @@ pub enum Refusal {
 }
 
 // The reading of a question.
-#[derive(Drop)]
+#[derive(Clone, Copy)]
 pub enum Reading {
     Permitted(Range),
     Refused(Refusal),

@@ -79,6 +79,7 @@ fn sell_highest(
 }
 
 // The lowest price that a rule permits.
+#[tactic(auto, unfolding(crate::specs::Permitted::lowest_of))]
 fn lowest_of(
     table: &[u32],
     percentage: Percentage,
@@ -103,6 +104,7 @@ fn lowest_of(
 }
 
 // The highest price that a rule permits.
+#[tactic(auto, unfolding(crate::specs::Permitted::highest_of))]
 fn highest_of(
     table: &[u32],
     percentage: Percentage,
@@ -140,6 +142,7 @@ fn nine_fold_reference(queues: Queues, close: Reference, nominal: Reference) -> 
 }
 
 // The range that a rule permits.
+#[tactic(auto, unfolding(crate::specs::Permitted::range_of))]
 pub(crate) fn range_of(
     table: &[u32],
     percentage: Percentage,

@@ -10,6 +10,7 @@ use questions::{Codes, References, checks};
 use rules::Choice;
 
 // The reading of a question's codes and references.
+#[tactic(auto, unfolding(crate::specs::Readings::reading_of, crate::specs::Readings::reading_by))]
 pub fn reading_of(
     table: &[u32],
     percentage: Percentage,

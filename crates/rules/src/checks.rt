@@ -58,6 +58,7 @@ fn is_quoted_before(queues: Queues, last_bid: Reference, last_ask: Reference) ->
 }
 
 // Whether the references disagree with the queues, or with each other.
+#[tactic(auto, unfolding(crate::specs::Checks::disagree))]
 pub fn do_disagree(queues: Queues, references: References) -> bool
     ensures { result ≡ disagree queues references }
 {

@@ -7,7 +7,7 @@ ghost use Rattle.rules.specs.Rules.{chosen, ask_of, bid_of};
 use questions::{Codes, Reference, References};
 
 // The queues, as the queue code tells of them, with the current or last bid and ask that the rules look at then.
-#[derive(Drop)]
+#[derive(Clone, Copy)]
 pub enum Queues {
     // No bid and no ask yet today.
     Opening,
@@ -22,7 +22,7 @@ pub enum Queues {
 }
 
 // The rule for an order, by its side and type. With the queues, which the queue code chooses, it gives the permitted range.
-#[derive(Drop)]
+#[derive(Clone, Copy)]
 pub enum Rule {
     BuyLimit,
     BuyEnhanced,
@@ -33,7 +33,7 @@ pub enum Rule {
 }
 
 // What the codes of a question choose.
-#[derive(Drop)]
+#[derive(Clone, Copy)]
 pub enum Choice {
     Chosen(Rule, Queues),
     // No rule has these codes.
@@ -41,6 +41,7 @@ pub enum Choice {
 }
 
 // The rule and the queues that the codes choose.
+#[tactic(auto, unfolding(crate::specs::Rules::chosen))]
 pub fn choose(codes: Codes, references: References) -> Choice
     ensures { result ≡ chosen codes references }
 {
