@@ -29,7 +29,7 @@ fn answer_each(
     answers: &mut [u8],
     count: usize,
 )
-    requires t { T (is_table table.now) }
+    requires well_formed { T (is_table table.now) }
     requires few { count ≤ most_questions }
     requires asked { count * question_bytes ≤ length questions.now }
     requires room { count * answer_bytes ≤ length answers.old }

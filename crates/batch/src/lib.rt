@@ -20,7 +20,7 @@ pub const MOST_QUESTIONS: usize = 1000;
 
 // The outcome of a batch: 0 and how many questions were judged, or 1 and 0.
 #[repr(C)]
-#[derive(Drop)]
+#[derive(Clone, Copy)]
 pub struct Outcome {
     pub number: u32,
     pub count: u32,

@@ -88,7 +88,7 @@ pub fn answer_on(table: &[u32], range: Range, price: u32) -> Answer
 
 // The same against the range of a reading, whose bounds are ladder prices.
 fn answer_permitted(table: &[u32], range: Range, price: u32) -> Answer
-    requires t { T (is_table table.now) }
+    requires well_formed { T (is_table table.now) }
     requires lowest { T (holds range.lowest (prices_of table.now)) }
     requires highest { T (holds range.highest (prices_of table.now)) }
     ensures { result ≡ answer_on (prices_of table.now) range price }
@@ -98,6 +98,7 @@ fn answer_permitted(table: &[u32], range: Range, price: u32) -> Answer
 }
 
 // The answer to a question as bytes.
+#[tactic(auto, unfolding(crate::specs::Answers::judged))]
 pub fn judge(table: &[u32], percentage: Percentage, question: &[u8]) -> Answer
     requires { T (is_table table.now) }
     ensures { result ≡ judged (prices_of table.now) percentage question.now }

@@ -18,14 +18,14 @@ use questions::{Codes, References};
 use ranges::{Range, Reading, readings};
 
 // The range that is shown: its lowest and highest price, or 0 and 0 where no price is left.
-#[derive(Drop)]
+#[derive(Clone, Copy)]
 pub struct Shown {
     pub lowest: u32,
     pub highest: u32,
 }
 
 // The verdict on a price against a permitted range.
-#[derive(Drop)]
+#[derive(Clone, Copy)]
 pub enum Verdict {
     Accepted,
     // Under the first ladder price, or over the last.
@@ -42,7 +42,7 @@ pub enum Verdict {
 
 // An answer: its number, and the lowest and highest price shown.
 #[repr(C)]
-#[derive(Drop)]
+#[derive(Clone, Copy)]
 pub struct Answer {
     pub number: u32,
     pub lowest: u32,

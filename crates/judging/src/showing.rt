@@ -96,8 +96,8 @@ pub fn shown_of(table: &[u32], range: Range) -> Shown
 
 // The first price that is shown, from a ladder price on: that price, unless the nine-fold rule cuts it.
 fn first_shown(table: &[u32], lowest: u32, nine_fold: Reference) -> Found
-    requires t { T (is_table table.now) }
-    requires t_2 { T (holds lowest (prices_of table.now)) }
+    requires well_formed { T (is_table table.now) }
+    requires on_ladder { T (holds lowest (prices_of table.now)) }
     ensures { result ≡ first (at_least 1 (cut_lowest lowest nine_fold)) (prices_of table.now) }
 {
     let from = cut_lowest(lowest, nine_fold);
@@ -109,8 +109,8 @@ fn first_shown(table: &[u32], lowest: u32, nine_fold: Reference) -> Found
 
 // The last price that is shown, up to a ladder price: that price, unless the nine-fold rule cuts it.
 fn last_shown(table: &[u32], highest: u32, nine_fold: Reference) -> Found
-    requires t { T (is_table table.now) }
-    requires t_2 { T (holds highest (prices_of table.now)) }
+    requires well_formed { T (is_table table.now) }
+    requires on_ladder { T (holds highest (prices_of table.now)) }
     ensures { result ≡ latest (at_most 1 (cut_highest highest nine_fold)) (prices_of table.now) }
 {
     let to = cut_highest(highest, nine_fold);
@@ -122,7 +122,7 @@ fn last_shown(table: &[u32], highest: u32, nine_fold: Reference) -> Found
 
 // The same of a range whose bounds are ladder prices: only a bound that is cut need be rounded.
 pub(crate) fn shown_of_permitted(table: &[u32], range: Range) -> Shown
-    requires t { T (is_table table.now) }
+    requires well_formed { T (is_table table.now) }
     requires lowest { T (holds range.lowest (prices_of table.now)) }
     requires highest { T (holds range.highest (prices_of table.now)) }
     ensures { result ≡ shown_of (prices_of table.now) range }

@@ -18,6 +18,7 @@ pub fn is_outside(table: &[u32], price: u32) -> bool
 }
 
 // The verdict on a price.
+#[tactic(auto, unfolding(crate::specs::Verdicts::verdict_of))]
 pub fn verdict_on(table: &[u32], range: Range, price: u32) -> Verdict
     requires { T (is_table table.now) }
     ensures { result ≡ verdict_of (prices_of table.now) range price }

@@ -37,18 +37,30 @@ paired Missing (Price b) e = true_is_false e
 paired (Price a) Missing e = true_is_false e
 paired (Price a) (Price b) e = ltb-false b a e
 
--- three pairs make a range that rises
+-- the least of two low ends and the greatest of two high ones are a pair again
+pub paired_ends : (a b x y : Reference) → Paired a x → Paired b y → Paired (least a b) (greatest x y)
+unfolding Paired
+paired_ends Missing b Missing y p q = q
+paired_ends Missing b (Price x) y p q = elim p [ ]
+paired_ends (Price a) b Missing y p q = elim p [ ]
+paired_ends (Price a) Missing (Price x) Missing p q = p
+paired_ends (Price a) Missing (Price x) (Price y) p q = elim q [ ]
+paired_ends (Price a) (Price b) (Price x) Missing p q = elim q [ ]
+paired_ends (Price a) (Price b) (Price x) (Price y) p q = omega arith
+
+-- a pair makes a range that rises
+from_pair : (bottom top : ℕ) → bottom ≤ top → (low high : Reference) → Paired low high → price_or bottom low ≤ price_or top high
+unfolding Paired
+from_pair bottom top m Missing Missing p = m
+from_pair bottom top m Missing (Price b) p = elim p [ ]
+from_pair bottom top m (Price a) Missing p = elim p [ ]
+from_pair bottom top m (Price a) (Price b) p = p
+
+-- and so do three pairs
 pub range_rises : (bottom top : ℕ) → bottom ≤ top → (a b c x y z : Reference) → Paired a x → Paired b y → Paired c z →
     price_or bottom (least a (least b c)) ≤ price_or top (greatest x (greatest y z))
-unfolding Paired
-range_rises bottom top m Missing Missing Missing Missing Missing Missing p q r = m
-range_rises bottom top m Missing Missing (Price c) Missing Missing (Price z) p q r = r
-range_rises bottom top m Missing (Price b) Missing Missing (Price y) Missing p q r = q
-range_rises bottom top m Missing (Price b) (Price c) Missing (Price y) (Price z) p q r = omega arith
-range_rises bottom top m (Price a) Missing Missing (Price x) Missing Missing p q r = p
-range_rises bottom top m (Price a) Missing (Price c) (Price x) Missing (Price z) p q r = omega arith
-range_rises bottom top m (Price a) (Price b) Missing (Price x) (Price y) Missing p q r = omega arith
-range_rises bottom top m (Price a) (Price b) (Price c) (Price x) (Price y) (Price z) p q r = omega arith
+range_rises bottom top m a b c x y z p q r =
+    from_pair bottom top m _ _ (paired_ends a (least b c) x (greatest y z) p (paired_ends b c y z q r))
 
 -- ---- the limits of a reference on the ladder
 

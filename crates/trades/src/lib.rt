@@ -16,7 +16,7 @@ use limits::five_percent;
 use questions::Reference;
 
 // The references of a trade: the previous close, and the lowest and highest bid and ask of the day so far.
-#[derive(Drop)]
+#[derive(Clone, Copy)]
 pub struct TradeReferences {
     pub previous_close: Reference,
     pub lowest_bid: Reference,

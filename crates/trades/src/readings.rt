@@ -10,6 +10,7 @@ use questions::{Reference, checks, missing};
 use ranges::{Range, Reading, Refusal, bounds};
 
 // The references of a trade from their numbers: 0 means missing.
+#[tactic(auto, unfolding(crate::specs::Trades::trade_references_of))]
 pub fn references_of(
     previous_close: u32,
     lowest_bid: u32,
@@ -29,6 +30,7 @@ pub fn references_of(
 }
 
 // Whether a reference is present, but no ladder price.
+#[tactic(auto, unfolding(crate::specs::Trades::any_trade_off))]
 fn is_any_off(table: &[u32], references: TradeReferences) -> bool
     requires { T (is_table table.now) }
     ensures { result ≡ any_trade_off (prices_of table.now) references }
@@ -83,6 +85,7 @@ fn highest_of(table: &[u32], percentage: Percentage, references: TradeReferences
 }
 
 // The reading of a trade's references.
+#[tactic(auto, unfolding(crate::specs::Trades::trade_reading))]
 pub fn reading_of(table: &[u32], percentage: Percentage, references: TradeReferences) -> Reading
     requires { T (is_table table.now) }
     ensures { result ≡ trade_reading (prices_of table.now) percentage references }

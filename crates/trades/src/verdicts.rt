@@ -10,6 +10,7 @@ use limits::Percentage;
 use ranges::{Range, Reading};
 
 // The verdict on a trade price: checks 6, 8 and 9. It need not be a ladder price, and the nine-fold rule is not for trades.
+#[tactic(auto, unfolding(crate::specs::Trades::trade_verdict))]
 pub fn verdict_on(table: &[u32], range: Range, price: u32) -> Verdict
     requires { T (is_table table.now) }
     ensures { result ≡ trade_verdict (prices_of table.now) range price }
@@ -27,6 +28,7 @@ pub fn verdict_on(table: &[u32], range: Range, price: u32) -> Verdict
 }
 
 // The answer to a trade.
+#[tactic(auto, unfolding(crate::specs::Trades::trade_judged))]
 pub fn judge(
     table: &[u32],
     percentage: Percentage,
