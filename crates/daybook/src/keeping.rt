@@ -6,6 +6,7 @@ use super::{Day, Quotes, Traded};
 use questions::{Reference, missing};
 
 // A day on which nothing has happened.
+#[tactic(auto, unfolding(crate::specs::Kept::current_of, crate::specs::Kept::last_of, crate::specs::Kept::lowest_of, crate::specs::Kept::highest_of))]
 pub(crate) fn fresh_day(previous_close: Reference) -> Day
     ensures { result ≡ fresh_day previous_close }
 {

@@ -15,7 +15,7 @@ use questions::Reference;
 
 // What is kept of the bids, or of the asks: the current one, which is missing where the queue is empty; the last one, which is the current
 // one where there is one; the lowest and the highest so far.
-#[derive(Drop)]
+#[derive(Clone, Copy)]
 pub struct Quotes {
     pub current: Reference,
     pub last: Reference,
@@ -24,14 +24,14 @@ pub struct Quotes {
 }
 
 // The lowest and the highest price of the System trades so far.
-#[derive(Drop)]
+#[derive(Clone, Copy)]
 pub struct Traded {
     pub low: Reference,
     pub high: Reference,
 }
 
 // A day of one security.
-#[derive(Drop)]
+#[derive(Clone, Copy)]
 pub struct Day {
     pub previous_close: Reference,
     pub bids: Quotes,
@@ -40,7 +40,7 @@ pub struct Day {
 }
 
 // A number, and the day from now on: 0, or why the event or the close was turned away.
-#[derive(Drop)]
+#[derive(Clone, Copy)]
 pub struct Entered {
     pub number: u32,
     pub day: Day,
@@ -72,6 +72,7 @@ impl Day {
     }
 
     // A fresh day. A previous close that is no ladder price gets 12, and the day then has none.
+    #[tactic(auto, unfolding(crate::specs::Days::opened))]
     pub fn fresh(previous_close: Reference) -> Entered
         ensures { result ≡ opened (ladder phase1) previous_close }
     {
@@ -84,6 +85,7 @@ impl Day {
     }
 
     // 1: the best bid is now this price.
+    #[tactic(auto, unfolding(crate::specs::Accepted::event_number, crate::specs::Days::entered))]
     pub fn best_bid(mut self, price: u32) -> Entered
         ensures { result ≡ entered (ladder phase1) self (event best_bid price) }
     {
@@ -101,6 +103,7 @@ impl Day {
     }
 
     // 2: the best ask is now this price.
+    #[tactic(auto, unfolding(crate::specs::Accepted::event_number, crate::specs::Days::entered))]
     pub fn best_ask(mut self, price: u32) -> Entered
         ensures { result ≡ entered (ladder phase1) self (event best_ask price) }
     {
@@ -118,6 +121,7 @@ impl Day {
     }
 
     // 3: the buy queue is empty. An empty one stays as it is.
+    #[tactic(auto, unfolding(crate::specs::Accepted::event_number, crate::specs::Days::entered))]
     pub fn buy_queue_empty(mut self) -> Entered
         ensures { result ≡ entered (ladder phase1) self (event buy_queue_empty 0) }
     {
@@ -127,6 +131,7 @@ impl Day {
     }
 
     // 4: the sell queue is empty.
+    #[tactic(auto, unfolding(crate::specs::Accepted::event_number, crate::specs::Days::entered))]
     pub fn sell_queue_empty(mut self) -> Entered
         ensures { result ≡ entered (ladder phase1) self (event sell_queue_empty 0) }
     {
@@ -136,6 +141,7 @@ impl Day {
     }
 
     // 5: a System trade at this price. Bids and asks play no part in it.
+    #[tactic(auto, unfolding(crate::specs::Accepted::event_number, crate::specs::Days::entered))]
     pub fn system_trade(mut self, price: u32) -> Entered
         ensures { result ≡ entered (ladder phase1) self (event system_trade price) }
     {
@@ -148,6 +154,7 @@ impl Day {
     }
 
     // An event by its kind, 1 to 5. Kinds 3 and 4 come with price 0.
+    #[tactic(auto, unfolding(crate::specs::Accepted::event_number, crate::specs::Days::entered))]
     pub fn enter(self, kind: u32, price: u32) -> Entered
         ensures { result ≡ entered (ladder phase1) self (event kind price) }
     {

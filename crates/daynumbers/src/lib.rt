@@ -7,7 +7,7 @@ use questions::missing;
 
 // A day as plain numbers, 0 where there is none.
 #[repr(C)]
-#[derive(Drop)]
+#[derive(Clone, Copy)]
 pub struct DayNumbers {
     pub previous_close: u32,
     pub current_bid: u32,
@@ -24,7 +24,7 @@ pub struct DayNumbers {
 
 // A number, and a day as plain numbers.
 #[repr(C)]
-#[derive(Drop)]
+#[derive(Clone, Copy)]
 pub struct EnteredNumbers {
     pub number: u32,
     pub day: DayNumbers,
@@ -53,6 +53,7 @@ fn traded_from(low: u32, high: u32) -> Traded
 }
 
 // The day that the numbers stand for.
+#[tactic(auto, unfolding(crate::specs::Numbers::day_from))]
 pub fn day_from(numbers: DayNumbers) -> Day
     ensures { result ≡ day_from numbers }
 {
@@ -79,6 +80,7 @@ pub fn day_from(numbers: DayNumbers) -> Day
 }
 
 // The numbers of a day.
+#[tactic(auto, unfolding(crate::specs::Numbers::numbers_of_day))]
 pub fn numbers_of_day(day: Day) -> DayNumbers
     ensures { result ≡ numbers_of_day day }
 {

@@ -9,7 +9,7 @@ use judging::answers::WRONG_LENGTH;
 use questions::{Codes, QUESTION_BYTES, Question, encoding};
 
 // What the caller gives of a question; the rest comes from the day. A nominal price of 0 is missing.
-#[derive(Drop)]
+#[derive(Clone, Copy)]
 pub struct Order {
     pub side: u8,
     pub order_type: u8,
@@ -44,6 +44,6 @@ pub fn fill(day: Day, order: Order, room: &mut [u8]) -> u32
         return WRONG_LENGTH;
     }
     let encoded = encoding::encode(question(day, order));
-    bytes::copy(&encoded, room);
+    room.copy_from_slice(&encoded);
     0
 }
