@@ -25,7 +25,7 @@ use questions::missing;
 
 // A price: `found` is 1, or 0 where there is none, and the price is then 0.
 #[repr(C)]
-#[derive(Drop)]
+#[derive(Clone, Copy)]
 pub struct PriceFound {
     pub found: u32,
     pub price: u32,
@@ -33,7 +33,7 @@ pub struct PriceFound {
 
 // A place: `found` is 1, or 0 where there is none, and the place is then 0, which is a proper place where `found` is 1.
 #[repr(C)]
-#[derive(Drop)]
+#[derive(Clone, Copy)]
 pub struct PlaceFound {
     pub found: u32,
     pub place: u32,

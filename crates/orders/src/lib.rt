@@ -9,21 +9,21 @@ ghost use Rattle.orders.specs.Orders.{bare, references, asked};
 use questions::{Codes, QUESTION_BYTES, Question, References, encoding, missing};
 
 // A bid and an ask.
-#[derive(Drop)]
+#[derive(Clone, Copy)]
 pub struct Quotes {
     pub bid: u32,
     pub ask: u32,
 }
 
 // The day's low and high.
-#[derive(Drop)]
+#[derive(Clone, Copy)]
 pub struct DayRange {
     pub low: u32,
     pub high: u32,
 }
 
 // All of a question but its order price. Prices are mils; 0 is a missing reference.
-#[derive(Drop)]
+#[derive(Clone, Copy)]
 pub struct Order {
     pub codes: Codes,
     pub current: Quotes,

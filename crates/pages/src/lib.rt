@@ -17,7 +17,7 @@ pub const LINE_ROOM: usize = 54;
 pub const LEFT_ROOM: usize = 8;
 
 // A page: it goes from here to the end of the text, or it is refused.
-#[derive(Drop)]
+#[derive(Clone, Copy)]
 pub enum Page {
     From(usize),
     Refused,

@@ -16,7 +16,7 @@ use text::{put_field, put_word};
 // Writes the line of one question.
 fn put_line(text: &mut [u8], end: usize, number: u64, answer: Answer) -> usize
     requires fits { line_room ≤ end }
-    requires end_in_bounds { end ≤ length text.old }
+    requires inside { end ≤ length text.old }
     ensures start { result + length (line number answer) ≡ end }
     ensures room { end ≤ result + line_room }
     ensures text { text.new ≡ ending_at end (line number answer) text.old }
@@ -37,11 +37,11 @@ fn put_lines(
     text: &mut [u8],
     end: usize,
 ) -> usize
-    requires t { T (is_table table.now) }
+    requires well_formed { T (is_table table.now) }
     requires asked { count * question_bytes ≤ length questions.now }
     requires numbers { first + count < 18446744073709551616 }
     requires fits { count * line_room ≤ end }
-    requires end_in_bounds { end ≤ length text.old }
+    requires inside { end ≤ length text.old }
     ensures start { result + length (lines_to (prices_of table.now) percentage first count questions.now) ≡ end }
     ensures text { text.new ≡ ending_at end (lines_to (prices_of table.now) percentage first count questions.now) text.old }
 {
@@ -59,9 +59,9 @@ fn put_lines(
 
 // Writes the line of the bytes that are left over, if there are any.
 fn put_left(text: &mut [u8], end: usize, left: usize) -> usize
-    requires left_lt_question_bytes { left < question_bytes }
+    requires left { left < question_bytes }
     requires fits { left_room ≤ end }
-    requires end_in_bounds { end ≤ length text.old }
+    requires inside { end ≤ length text.old }
     ensures start { result + length (left_line left) ≡ end }
     ensures room { end ≤ result + left_room }
     ensures text { text.new ≡ ending_at end (left_line left) text.old }

@@ -19,14 +19,14 @@ const PIECE_BYTES: usize = PIECE_QUESTIONS * QUESTION_BYTES;
 const TEXT_BYTES: usize = PIECE_QUESTIONS * pages::LINE_ROOM + pages::LEFT_ROOM;
 
 // What came of a piece: how many bytes, and whether a read failed after them.
-#[derive(Drop)]
+#[derive(Clone, Copy)]
 struct Input {
     bytes: usize,
     has_failed: bool,
 }
 
 // What became of a piece: what came of it, and whether its page was written.
-#[derive(Drop)]
+#[derive(Clone, Copy)]
 struct Outcome {
     input: Input,
     is_written: bool,

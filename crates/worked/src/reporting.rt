@@ -65,7 +65,7 @@ pub(crate) fn order(
 }
 
 // An order price outside the range, and the number that it gets.
-#[derive(Drop)]
+#[derive(Clone, Copy)]
 pub(crate) struct Tried {
     pub price: u32,
     pub number: u32,
