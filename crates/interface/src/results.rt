@@ -6,6 +6,7 @@ use super::{PlaceFound, PriceFound};
 use ladder::{Found, Place};
 
 // 1 and the price, or 0 and 0.
+#[tactic(auto, unfolding(crate::specs::Results::price_found))]
 pub(crate) fn price_found(found: Found) -> PriceFound
     ensures { result ≡ price_found found }
 {
@@ -16,6 +17,7 @@ pub(crate) fn price_found(found: Found) -> PriceFound
 }
 
 // 1 and the place, or 0 and 0.
+#[tactic(auto, unfolding(crate::specs::Results::place_found))]
 pub(crate) fn place_found(place: Place) -> PlaceFound
     ensures { result ≡ place_found place }
 {

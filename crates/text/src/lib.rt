@@ -1,5 +1,7 @@
 // Text that is filled from its end. Each function writes so that its last character stands just before `end`, and answers where its
 // first one stands.
+#![tactic(auto)]
+
 ghost use Rattle.std.specs.Prelude.{◌≡◌, ◌+◌, ◌≤◌, ◌<◌, [], ◌∷◌, length};
 ghost use Rattle.text.specs.Decimal.{two_digits, decimal, field};
 ghost use Rattle.text.specs.Decimal.{digit as Decimal·digit};

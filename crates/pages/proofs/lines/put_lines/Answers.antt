@@ -1,0 +1,39 @@
+-- One line after the other, each before those after it.
+use Rattle.std.proofs.Common.{◌≡◌, ℕ, suc, ◌+◌, ◌-◌, ◌*◌, ◌≤◌, List, ◌++◌, take, drop, ap, ◌∙◌, arith}
+use Rattle.judging.specs.declared.Answer.{Answer}
+use Rattle.judging.specs.Answers.{judged}
+use Rattle.text.proofs.Laws.{text_laws}
+use Rattle.ladder.specs.Layout.{prices_of}
+use Rattle.limits.specs.declared.Percentage.{Percentage}
+use Rattle.questions.specs.Record.{question_bytes, question_at}
+use Rattle.pages.specs.Lines.{line, lines_to}
+use Rattle.pages.proofs.lines.put_lines.Goals as goal
+
+last_line : (l : List ℕ) (percent : Percentage) (first k : ℕ) (s : List ℕ) → 1 ≤ k →
+    lines_to l percent first k s ≡ lines_to l percent first (k - 1) s ++ line (first + (k - 1)) (judged l percent (question_at (k - 1) s))
+unfolding lines_to
+last_line l percent first k s h = let m = k - 1 in let e : k ≡ suc m = omega arith in ap (λ (n : ℕ). lines_to l percent first n s) e
+
+pub loop-k-preserved : goal.loop-k-preserved
+loop-k-preserved c =
+    let k = c.loop-k.k in
+    let prices = prices_of c.args.table.now in
+    let questions = c.args.questions.now in
+    let asked = question_at (k - 1) questions in
+    let one_question : (k - 1) * question_bytes + question_bytes - (k - 1) * question_bytes ≡ question_bytes = omega arith in
+    let answered_by : ℕ → Answer = λ n. judged prices c.args.percentage (take n (drop ((k - 1) * question_bytes) questions)) in
+    let answer : c.judge-answer.result ≡ judged prices c.args.percentage asked = c.judge-answer.ensures ∙ ap answered_by one_question in (
+      omega arith,
+      omega (arith, c.loop-k.invariant.1, c.put_line-at.ensures.room),
+      (text_laws.filled_by_parts _ _ _).further _ _ _ c.loop-k.invariant.2 c.requires.inside _
+          (line (c.args.first + (k - 1)) (judged prices c.args.percentage asked))
+          (last_line prices c.args.percentage c.args.first k questions (omega arith)) _ (rw (← answer) c.put_line-at.ensures.start) _
+          (rw (← answer) c.put_line-at.ensures.text),
+    )
+
+pub returns : goal.returns
+unfolding lines_to
+returns c =
+    let none : c.loop-k.k ≡ 0 = omega arith in
+    let all = (text_laws.filled_by_parts _ _ _).ended _ _ (rw none at c.loop-k.invariant.2) in
+    record { start = all.0; text = all.1 }
