@@ -2,6 +2,8 @@
 //
 // The calls of this file use the Phase 1 table. The same calls in `places`, `steps` and `rounding` are lent a table, which they
 // require to be well formed; their contracts hold for every such table. Prices are whole mils.
+#![tactic(auto)]
+
 mod bands; // bands.rt: the layout of a table as plain numbers
 mod search; // search.rt: the band where a threshold lands, and where a price stands
 mod turns; // turns.rt: one band of a walk

@@ -7,7 +7,7 @@ use lib.Dec.{T, le→leb}
 use Rattle.facts.proofs.Numbers.{of_smaller, of_larger}
 use Rattle.ladder.specs.declared.Found.{Found}
 use Rattle.ladder.specs.declared.Found.TheVariants.{Price, Nothing}
-use Rattle.ladder.specs.Bands.{Table, phase1, well_formed}
+use Rattle.ladder.specs.Bands.{Table, phase1}
 use Rattle.ladder.specs.Ladder.{ladder, is_ladder_price}
 use Rattle.ladder.specs.Search.{first, latest, or_else, at_least, at_most}
 use Rattle.ladder.specs.Spreads.{if_held}

@@ -2,6 +2,8 @@
 //
 // The calls of this file use the Phase 1 table and 5 percent. Those of `percent` and `limit` are lent a table and take a percentage; their
 // contracts hold for every well-formed table and any percentage. Prices are whole mils.
+#![tactic(auto)]
+
 pub mod percent; // percent.rt: the percentage limits by themselves
 pub mod limit; // limit.rt: the lower and the upper limit
 

@@ -1,6 +1,6 @@
 -- The laws of specs/Laws.antt, proved. Other crates see them as fields of number-laws.
 use mathlib.Core.Path.{◌≡◌}
-use Prim.Native.Nat.{ℕ, ◌+◌, ◌*◌, ◌/◌, ◌%◌}
+use Prim.Native.Nat.{ℕ, ◌+◌, ◌*◌, ◌/◌}
 use native.Mathlib.Nat.{mod-eq_of_lt, div-add-mod', div-div-eq-div-mul}
 use native.Mathlib.Omega.{arith}
 use Rattle.little_endian.specs.Laws.{NumberReadsBack, NumberLaws}

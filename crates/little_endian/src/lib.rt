@@ -1,5 +1,7 @@
 // Numbers in bytes: 4 bytes each, little-endian, which is the lowest first. Records, such as questions and answers, are read and written with
 // these.
+#![tactic(auto)]
+
 ghost use Rattle.std.specs.Prelude.{◌≡◌, ◌+◌, ◌*◌, ◌≤◌, length};
 ghost use Rattle.little_endian.specs.Numbers.{number, four_bytes};
 

@@ -1,6 +1,6 @@
 -- Check 3, by the reference feed; and pairs of a low and a high, which check 4 looks at (rules/specs/Checks.antt). Document 01, "Why a question
 -- comes back".
-use Rattle.std.specs.Prelude.{Bool, true, false, not, cond, ◌||◌}
+use Rattle.std.specs.Prelude.{Bool, false, not, cond, ◌||◌}
 use Rattle.ladder.specs.Ladder.{Prices}
 use Rattle.facts.specs.Lists.{holds}
 use Rattle.questions.specs.declared.Reference.{Reference}

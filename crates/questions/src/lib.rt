@@ -1,6 +1,8 @@
 // Questions: a question from its bytes and its bytes again, and the check of its references against the ladder.
 //
 // Prices are whole mils. What the codes choose, and the checks that depend on it, are the crate `rules` above.
+#![tactic(auto)]
+
 pub mod decoding; // decoding.rt: a question from its bytes
 pub mod encoding; // encoding.rt: the bytes of a question
 pub mod missing; // missing.rt: references, each a price or missing

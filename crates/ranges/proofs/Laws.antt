@@ -22,7 +22,6 @@ use Rattle.rules.specs.Checks.{disagree, unopposed}
 use Rattle.rules.specs.Rules.{unknown_code, rule_of, queues_of, chosen, ask_of, bid_of}
 use Rattle.ranges.specs.declared.Range.{Range}
 use Rattle.ranges.specs.declared.Refusal.{Refusal}
-use Rattle.ranges.specs.declared.Refusal.TheVariants.{OffLadder, Disagreement, NoOpposite}
 use Rattle.ranges.specs.declared.Reading.{Reading}
 use Rattle.ranges.specs.declared.Reading.TheVariants.{Permitted, Refused}
 use Rattle.ranges.specs.Bounds.{bottom, top}

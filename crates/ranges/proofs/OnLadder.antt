@@ -1,5 +1,5 @@
 -- References on the ladder: what limits and spreads make of them is on the ladder too.
-use mathlib.Core.Path.{◌≡◌, ap, sym}
+use mathlib.Core.Path.{◌≡◌}
 use Prim.Native.Nat.{ℕ}
 use mathlib.Core.Bool.{false}
 use lib.Dec.{T}
@@ -7,19 +7,17 @@ use borrow.Author.Tests.{not-false}
 use Rattle.facts.specs.Lists.{holds}
 use Rattle.facts.proofs.Tests.{true_of}
 use Rattle.facts.proofs.Numbers.{of_smaller, of_larger}
-use Rattle.ladder.specs.declared.Found.{Found}
 use Rattle.ladder.specs.Bands.{Table, well_formed}
 use Rattle.ladder.specs.Ladder.{ladder, is_ladder_price}
 use Rattle.ladder.specs.Spreads.{if_held}
 use Rattle.ladder.proofs.Laws.{ladder_laws}
 use Rattle.limits.specs.declared.Percentage.{Percentage}
-use Rattle.limits.specs.Limits.{lower_limit_found, upper_limit_found}
 use Rattle.limits.proofs.Laws.{limit_laws}
 use Rattle.questions.specs.declared.Reference.{Reference}
 use Rattle.questions.specs.declared.Reference.TheVariants.{Missing, Price}
 use Rattle.questions.specs.Missing.{least, greatest, price_or}
 use Rattle.questions.specs.Checks.{is_off}
-use Rattle.ranges.specs.Bounds.{as_reference, from_reference, enhanced_spreads, enhanced_above, enhanced_below}
+use Rattle.ranges.specs.Bounds.{from_reference, enhanced_spreads, enhanced_above, enhanced_below}
 use Rattle.ranges.specs.Laws.{On, StayOn}
 
 module _ (t : Table) (wf : T (well_formed t)) where

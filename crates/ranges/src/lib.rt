@@ -1,6 +1,8 @@
 // The reading of a question: the range that the rules permit, or why it has none.
 //
 // Functions that are lent a table hold for every well-formed one, and those that take a percentage for any.
+#![tactic(auto)]
+
 pub mod bounds; // bounds.rt: limits and nine spreads of a reference
 mod permitted; // permitted.rt: the permitted range
 pub mod readings; // readings.rt: the reading of a question

@@ -1,4 +1,6 @@
 // The rule that the side, order type and queue code of a question choose together, and the checks that depend on it.
+#![tactic(auto)]
+
 pub mod checks; // checks.rt: references that disagree, special orders with no opposite queue
 
 ghost use Rattle.std.specs.Prelude.{◌≡◌};

@@ -1,7 +1,6 @@
 -- The place of a price: the places below its band, and its spreads over the bottom.
-use Rattle.std.proofs.Common.{◌+◌, ◌-◌, ◌/◌, ◌≤◌, sym, arith}
+use Rattle.std.proofs.Common.{sym, arith}
 use Rattle.ladder.specs.Layout.{bands_of}
-use Rattle.ladder.specs.Arithmetic.{StandsIn}
 use Rattle.ladder.proofs.Lists.Entries.{place_off}
 use Rattle.ladder.proofs.Tables.Table.{band_facts}
 use Rattle.ladder.proofs.Tables.Stands.{standing_stands, standing_off}

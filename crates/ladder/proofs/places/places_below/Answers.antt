@@ -1,5 +1,5 @@
 -- The places below a band, summed band by band.
-use Rattle.std.proofs.Common.{◌≡◌, ◌+◌, ◌<◌, ◌≤◌, refl, arith}
+use Rattle.std.proofs.Common.{refl, arith}
 use Rattle.ladder.specs.Layout.{bands_of}
 use Rattle.ladder.specs.Arithmetic.{places_below}
 use Rattle.ladder.proofs.Tables.Table.{band_facts}

@@ -1,5 +1,5 @@
 -- The price at a place: a walk up from the first price, in which nothing may be left.
-use Rattle.std.proofs.Common.{◌≡◌, ◌+◌, ◌-◌, ◌*◌, ◌≤◌, ◌<◌, sym, arith}
+use Rattle.std.proofs.Common.{sym, arith}
 use Rattle.ladder.specs.Layout.{bands_of}
 use Rattle.ladder.specs.Arithmetic.{places_below}
 use Rattle.ladder.proofs.Tables.Table.{table_facts, band_facts}

@@ -1,5 +1,5 @@
 -- The one division: a threshold inside the ladder falls between two neighbours of the band where it lands.
-use Rattle.std.proofs.Common.{◌+◌, ◌-◌, ◌*◌, ◌/◌, ◌≤◌, arith}
+use Rattle.std.proofs.Common.{arith}
 use Rattle.ladder.specs.Layout.{bands_of}
 use Rattle.ladder.proofs.Tables.Gaps.{scaled, inside, divisor, starts_below, gap_fits, spreads_fit, is_between}
 use Rattle.ladder.proofs.rounding.between.Goals as goal

@@ -1,7 +1,6 @@
 -- The search for a band: one after the other in the lower half, and those of the upper half counted.
-use Rattle.std.proofs.Common.{◌≡◌, ◌+◌, ◌*◌, ◌/◌, ◌≤◌, drop, add-one, arith}
+use Rattle.std.proofs.Common.{◌≡◌, ◌*◌, ◌/◌, drop, add-one, arith}
 use Rattle.ladder.specs.Layout.{bands_of}
-use Rattle.ladder.specs.Arithmetic.{bands_below}
 use Rattle.ladder.proofs.Tables.Chain.{band_at}
 use Rattle.ladder.proofs.Tables.Table.{start, table_facts}
 use Rattle.ladder.proofs.Tables.Landing.{stops, goes_on, no_more, counts_all, rest_chained}

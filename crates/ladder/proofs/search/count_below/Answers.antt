@@ -1,5 +1,5 @@
 -- Every band from an index on is looked at, and counted where it ends below.
-use Rattle.std.proofs.Common.{◌≡◌, ◌+◌, ◌*◌, ◌<◌, ◌≤◌, add-one, arith}
+use Rattle.std.proofs.Common.{◌≡◌, ◌*◌, add-one, arith}
 use Rattle.ladder.specs.Layout.{bands_of}
 use Rattle.ladder.proofs.Tables.Chain.{band_at}
 use Rattle.ladder.proofs.Tables.Landing.{counted, not_counted, all_seen}

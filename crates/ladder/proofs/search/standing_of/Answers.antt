@@ -1,5 +1,5 @@
 -- Where a price stands: above the table, below it, in its band, or between two prices of its band.
-use Rattle.std.proofs.Common.{◌≤◌, ◌<◌, arith}
+use Rattle.std.proofs.Common.{arith}
 use Rattle.ladder.specs.Layout.{bands_of}
 use Rattle.ladder.proofs.Tables.Table.{band_facts}
 use Rattle.ladder.proofs.Tables.Stands.{off_above, off_below, off_between, on_band}

@@ -1,5 +1,5 @@
 -- The walk down, band by band.
-use Rattle.std.proofs.Common.{◌≡◌, ◌-◌, refl, sym, ap, ◌∙◌, arith}
+use Rattle.std.proofs.Common.{◌≡◌, refl, sym, ap, ◌∙◌}
 use Rattle.ladder.specs.Layout.{bands_of}
 use Rattle.ladder.proofs.Tables.Chain.{band_at}
 use Rattle.ladder.proofs.Tables.Table.{band_facts}

@@ -1,5 +1,5 @@
 -- The walk up, band by band.
-use Rattle.std.proofs.Common.{◌+◌, ◌-◌, refl, sym, ◌∙◌, arith}
+use Rattle.std.proofs.Common.{refl, sym, ◌∙◌, arith}
 use Rattle.ladder.specs.Layout.{bands_of}
 use Rattle.ladder.proofs.Tables.Table.{band_facts}
 use Rattle.ladder.proofs.Tables.Walks.{told_up, into_next, up_halts}

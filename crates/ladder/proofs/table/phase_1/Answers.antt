@@ -1,5 +1,5 @@
 -- The Phase 1 table, laid out band by band.
-use Rattle.std.proofs.Common.{◌≡◌, ◌≤◌, take, get_or, length-set, refl, sym, ◌∙◌, arith}
+use Rattle.std.proofs.Common.{◌≡◌, get_or, length-set, refl, sym, ◌∙◌, arith}
 use Rattle.std.proofs.Math.Seq.{take_all}
 use Rattle.ladder.specs.Bands.{no_band, phase1}
 use Rattle.ladder.specs.Layout.{bands_of}

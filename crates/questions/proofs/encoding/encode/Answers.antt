@@ -1,5 +1,5 @@
 -- The codes, and nine numbers one after the other.
-use Rattle.std.proofs.Common.{◌≡◌, [], ◌∷◌, replicate}
+use Rattle.std.proofs.Common.{◌≡◌, ◌∷◌, replicate}
 use Rattle.std.proofs.lemmas.List.Edits.{sets}
 use Rattle.little_endian.specs.Numbers.{Bytes, four_bytes}
 use Rattle.questions.specs.declared.Question.{Question}
