@@ -1,6 +1,8 @@
 // A batch: many questions, judged into one answer buffer.
 //
 // The calls of this file use the Phase 1 table and 5 percent. That of `batches` is lent a table and holds for every well-formed one.
+#![tactic(auto)]
+
 pub mod batches; // batches.rt: the checks on a batch, and its answers one after the other
 mod encoding; // encoding.rt: an answer as 12 bytes
 

@@ -2,6 +2,8 @@
 //
 // A day is a struct by value. It keeps the references that questions and off-System trades ask for, so that nobody fills them in by hand: the
 // crate `dayquestion` fills a question from it, `daynumbers` has it as plain numbers. Prices are whole mils; the ladder is that of Phase 1.
+#![tactic(auto)]
+
 mod acceptance; // acceptance.rt: the tests that turn an event away
 mod keeping; // keeping.rt: what an event makes of the prices that are kept
 

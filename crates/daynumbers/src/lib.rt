@@ -1,4 +1,6 @@
 // A day as plain numbers: the form in which C holds it. Any eleven numbers are a day.
+#![tactic(auto)]
+
 ghost use Rattle.std.specs.Prelude.{◌≡◌};
 ghost use Rattle.daynumbers.specs.Numbers.{quotes_from, traded_from, day_from, numbers_of_day, entered_numbers};
 

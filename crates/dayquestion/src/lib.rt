@@ -1,4 +1,6 @@
 // A question filled from a day: queue code and references come from the day, the rest from the caller.
+#![tactic(auto)]
+
 mod filling; // filling.rt: the queue code and the references of a day
 
 ghost use Rattle.std.specs.Prelude.{◌≡◌};

@@ -1,5 +1,7 @@
 // The C interface beside the batch: the other functions that include/hendovita.h declares. Each hands on to a call of the crates below,
 // and none has a precondition.
+#![tactic(auto)]
+
 mod results; // results.rt: a price or a place, or none, as two numbers
 
 ghost use Rattle.std.specs.Prelude.{◌≡◌};

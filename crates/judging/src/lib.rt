@@ -2,6 +2,8 @@
 //
 // The calls of this file use the Phase 1 table and 5 percent. Functions of `showing`, `verdicts` and `answers` that are lent a table
 // hold for every well-formed one. Prices are whole mils.
+#![tactic(auto)]
+
 pub mod showing; // showing.rt: the nine-fold rule and the shown range
 pub mod verdicts; // verdicts.rt: the verdict on a price
 pub mod answers; // answers.rt: the numbers of refusals and verdicts, and the answers

@@ -1,5 +1,7 @@
 // What the program `worked` tries, and whether it is right: an order by its fields, the bytes of the question that it stands for at a price, and
 // answers compared with those that are due.
+#![tactic(auto)]
+
 pub mod comparing; // comparing.rt: whether what is found is what is due
 
 ghost use Rattle.std.specs.Prelude.{◌≡◌};

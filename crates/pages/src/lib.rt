@@ -1,6 +1,8 @@
 // The text of pricecheck: a line for each question, and one for the bytes that are left over.
 //
 // The call of this file uses the Phase 1 table and 5 percent. That of `lines` is lent a table and holds for every well-formed one.
+#![tactic(auto)]
+
 pub mod lines; // lines.rt: the lines, from the last to the first
 
 ghost use Rattle.std.specs.Prelude.{◌≡◌};

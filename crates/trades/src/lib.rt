@@ -2,6 +2,8 @@
 //
 // The call of this file uses the Phase 1 table and 5 percent. Functions of `readings` and `verdicts` that are lent a table hold for
 // every well-formed one. Prices are whole mils.
+#![tactic(auto)]
+
 pub mod readings; // readings.rt: the reading of a trade's references: its range, or why it has none
 pub mod verdicts; // verdicts.rt: the verdict on a trade price, and the answer
 

@@ -1,5 +1,5 @@
 -- No line, or a word and a number.
-use Rattle.std.proofs.Common.{◌≡◌, ℕ, suc, ◌+◌, ◌-◌, ◌≤◌, ◌<◌, [], ◌∷◌, ◌++◌, length, refl, arith}
+use Rattle.std.proofs.Common.{◌≡◌, ℕ, suc, ◌+◌, ◌-◌, ◌≤◌, [], ◌∷◌, ◌++◌, length, refl, arith}
 use Rattle.text.specs.Decimal.{Text, field}
 use Rattle.text.specs.Ending.{ending_at, Filled}
 use Rattle.text.proofs.Laws.{text_laws}
