@@ -1,10 +1,10 @@
 -- The buffer as the answers come in.
 use mathlib.Core.Path.{◌≡◌, refl, ◌∙◌, ap}
-use Prim.Native.Nat.{ℕ, zero, suc, ◌+◌, ◌*◌, ◌≤◌}
+use Prim.Native.Nat.{ℕ, zero, suc, ◌+◌, ◌*◌}
 use native.Mathlib.Numerals.{add-one}
 use native.Mathlib.Omega.{arith}
 use mathlib.Core.List.{List, ◌++◌}
-use lib.ListN.{length, take, drop, length-append, length-drop}
+use lib.ListN.{length, take, drop, length-append}
 use lib.Seq.{drop-drop}
 use Rattle.limits.specs.declared.Percentage.{Percentage}
 use Rattle.judging.specs.declared.Answer.{Answer}
@@ -25,10 +25,6 @@ module _ (l : List ℕ) (percent : Percentage) (s : List ℕ) where
   length_answers (suc n) =
       length-append (answers_to l percent n s) (encoded (judged l percent (question_at n s))) ∙
       omega (arith, length_answers n, length_encoded (judged l percent (question_at n s)))
-
-  pub length_answered : (n : ℕ) (a : List ℕ) → n * answer_bytes ≤ length a → length (answered l percent n s a) ≡ length a
-  length_answered n a m =
-      length-append (answers_to l percent n s) (drop (n * answer_bytes) a) ∙ omega (arith, length_answers n, length-drop (n * answer_bytes) a)
 
   -- the next answer takes the place of the next twelve bytes
   pub one_more : (k w : ℕ) (a b x : List ℕ) → w ≡ answer_bytes → b ≡ answered l percent k s a → x ≡ encoded (judged l percent (question_at k s)) →

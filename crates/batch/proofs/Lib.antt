@@ -1,4 +1,4 @@
--- Laws: what other crates see. Lengths: what a batch that is judged has. Parts: a part that is lent and comes back. Buffer: the
+-- Laws: what other crates see. Lengths: how many bytes whole questions have. Parts: a part that is lent and comes back. Buffer: the
 -- buffer as the answers come in. Changes: lists that agree but for one record.
 pub mod Laws
 mod Lengths

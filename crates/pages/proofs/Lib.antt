@@ -1,4 +1,3 @@
--- Laws: what other crates see. Lengths: how long lines are. Rooms: what a page that is not refused has.
+-- Laws: what other crates see. Lengths: how long lines are.
 pub mod Laws
 mod Lengths
-mod Rooms

@@ -1,4 +1,3 @@
--- Laws: what other crates see. OnLadder: references on the ladder, and what is made of them. Pairs: a rule that is one of two.
+-- Laws: what other crates see. OnLadder: references on the ladder, and what is made of them.
 pub mod Laws
 mod OnLadder
-mod Pairs

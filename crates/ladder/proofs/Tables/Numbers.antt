@@ -1,13 +1,12 @@
 -- The layout: where the three numbers of a band stand; and that products of two 32-bit numbers fit 64.
-use mathlib.Core.Path.{◌≡◌, refl, ap, sym, ◌∙◌, subst⁻¹}
-use Prim.Native.Nat.{ℕ, zero, suc, ◌+◌, ◌*◌, ◌/◌, ◌^◌, ◌<◌}
-use native.Mathlib.Nat.{not-suc-le-zero, le_of_suc-le-suc, le_of_lt, lt_of_le_of_lt, mul-le-mul_left, mul-lt-mul_of_pos_right}
+use mathlib.Core.Path.{◌≡◌, refl, ap, sym, ◌∙◌}
+use Prim.Native.Nat.{ℕ, zero, suc, ◌+◌, ◌*◌, ◌/◌, ◌<◌}
+use native.Mathlib.Nat.{not-suc-le-zero, le_of_suc-le-suc}
 use native.Mathlib.Numerals.{add-one, add-two}
 use native.Mathlib.Omega.{arith}
 use mathlib.Core.List.{List, [], ◌∷◌}
 use lib.ListN.{length, get_or, set, take}
 use lib.Seq.{take-suc, take-suc-set}
-use lib.Pow.{pow_pos, pow-add}
 use Rattle.ladder.specs.declared.Band.{Band}
 use Rattle.ladder.specs.Bands.{band, no_band}
 use Rattle.ladder.specs.Layout.{bands_of}
@@ -51,9 +50,3 @@ pub laid_more : (l : List ℕ) (t : List Band) (k : ℕ) → k < length t → k 
 laid_more l t k h m e b f =
     rw (add-one k, add-one (3 * k), add-two (3 * k), bands_set l k (3 * k) b.bottom b.top b.spread refl m)
     (take-suc-set (bands_of l) k b m ∙ (rw (e, f) (sym (take-suc t k no_band h))))
-
--- a product of two numbers of k bits has at most k + k
-pub product_below : (k : ℕ) {a b : ℕ} → a < 2 ^ k → b < 2 ^ k → a * b < 2 ^ (k + k)
-product_below k {a} {b} ha hb =
-    subst⁻¹ (λ (n : ℕ). a * b < n) (pow-add 2 k k)
-    (lt_of_le_of_lt (mul-le-mul_left a (le_of_lt hb)) (mul-lt-mul_of_pos_right ha (pow_pos k)))
