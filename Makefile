@@ -13,7 +13,10 @@ STRICT = -std=c11 -Wall -Wextra -Wpedantic -Wconversion -Werror
 LIBRARY = build/libhendovita.a
 PRICECHECK = build/pricecheck
 HEADER = include/hendovita.h
-RATTLE = crates.txt $(shell find crates -name '*.rt' -o -name '*.antt')
+RATTLE = crates.txt $(shell find crates -name out -prune -o \( -name '*.rt' -o -name '*.antt' \) -print)
+# What rt makes of them: an archive of the batch, one of the other calls, and the program.
+ARCHIVES = crates/batch_c/out/libbatch_c.a crates/interface/out/libinterface.a
+PROGRAM = crates/pricecheck/out/pricecheck
 PLAIN = $(wildcard host/plain/*.c host/draw/*.c)
 PLAIN_HEADERS = $(wildcard host/plain/*.h host/draw/*.h)
 TESTS = $(wildcard host/tests/*.c)
@@ -25,20 +28,27 @@ INCLUDES = -Iinclude -Ihost/plain -Ihost/draw
 all: $(LIBRARY) $(PRICECHECK) build/ask
 
 # The batch and the other calls are an object each.
-$(LIBRARY): $(RATTLE) Makefile
-	@echo 'proving and building the library .. (about two and a half minutes from scratch)'
-	rt staticlib batch
-	rt staticlib interface
+$(LIBRARY): $(ARCHIVES) Makefile
 	mkdir -p build
 	rm -f build/*.o $@
-	cd build && ar x ../target/staticlib/libbatch.a && ar x ../target/staticlib/libinterface.a
-	ar rcs $@ build/batch.o build/interface.o
+	cd build && for archive in $(ARCHIVES); do ar x ../$$archive || exit; done
+	ar rcs $@ build/batch_c.o build/interface.o
 
-$(PRICECHECK): $(RATTLE) Makefile
-	@echo 'proving and building pricecheck .. (about half a minute more)'
-	rt check pricecheck
+$(PRICECHECK): $(PROGRAM) Makefile
 	mkdir -p build
-	cp target/bin/pricecheck $@
+	cp $(PROGRAM) $@
+
+# Each command proves first what it builds, where that is not proved yet.
+$(ARCHIVES): $(RATTLE)
+	@echo 'proving and building $@ ..'
+	cd $(dir $(@D)) && rt lib
+	touch $@
+
+# The program is run too, on no questions, for which it prints nothing.
+$(PROGRAM): $(RATTLE)
+	@echo 'proving and building $@ ..'
+	cd $(dir $(@D)) && rt run </dev/null
+	touch $@
 
 build/ask: $(LIBRARY) $(HEADER) $(ASK) $(wildcard tools/*.h)
 	$(CC) $(STRICT) $(CFLAGS) -Iinclude $(ASK) $(LIBRARY) -o $@

@@ -37,12 +37,3 @@ pub fn judge_batch(questions: &[u8], answers: &mut [u8]) -> Outcome
     let table = ladder::table::phase_1();
     batches::judge(&table, five_percent(), questions, answers)
 }
-
-// The same for C, where a slice is a pointer and a length.
-#[unsafe(no_mangle)]
-pub extern "C" fn hendovita_judge_batch(questions: &[u8], answers: &mut [u8]) -> Outcome
-    ensures outcome { result ≡ outcome_of questions.now answers.old }
-    ensures buffer { answers.new ≡ buffer_after (ladder phase1) five_percent questions.now answers.old }
-{
-    judge_batch(questions, answers)
-}
