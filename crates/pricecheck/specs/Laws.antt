@@ -1,5 +1,5 @@
--- The laws of pricecheck. Each is a field of the record PricecheckLaws at the end, which proofs/Laws.antt proves as pricecheck-laws: PiecesJoin
--- is the field pieces-join.
+-- The laws of pricecheck. Each is a field of the record PricecheckLaws at the end, which proofs/Laws.antt proves as pricecheck_laws: PiecesJoin
+-- is the field pieces_join.
 use Rattle.std.specs.Prelude.{◌≡◌, ℕ, suc, ◌≤◌, ◌<◌, Bool, true, false, ◌&&◌, List, [], ◌∷◌, ◌++◌, T, eqb, length}
 use Rattle.text.specs.Decimal.{Text}
 use Rattle.little_endian.specs.Numbers.{Bytes}
