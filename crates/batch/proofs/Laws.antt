@@ -1,4 +1,4 @@
--- The laws of specs/Laws.antt, proved. Other crates see them as fields of batch-laws.
+-- The laws of specs/Laws.antt, proved. Other crates see them as fields of batch_laws.
 use mathlib.Core.Path.{◌≡◌, refl, sym, ◌∙◌, ap, subst}
 use mathlib.Core.Logic.{⊎_elim}
 use Prim.Native.Nat.{ℕ, zero, suc, ◌+◌, ◌*◌, ◌≤◌, ◌<◌}

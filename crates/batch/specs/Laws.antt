@@ -1,5 +1,5 @@
--- The laws of a batch. Each is a field of the record BatchLaws at the end, which proofs/Laws.antt proves as batch-laws: AnswerAlone is the
--- field answer-alone.
+-- The laws of a batch. Each is a field of the record BatchLaws at the end, which proofs/Laws.antt proves as batch_laws: AnswerAlone is the
+-- field answer_alone.
 use Rattle.std.specs.Prelude.{◌≡◌, ℕ, suc, ◌*◌, ◌≤◌, ◌<◌, Bool, not, [], T, length, get_or, take, drop}
 use Rattle.ladder.specs.Bands.{Table, well_formed}
 use Rattle.ladder.specs.Ladder.{Prices, ladder}

@@ -1,4 +1,4 @@
--- The laws of specs/Laws.antt, proved. Other crates see them as fields of day-laws.
+-- The laws of specs/Laws.antt, proved. Other crates see them as fields of day_laws.
 use mathlib.Core.Path.{refl}
 use borrow.Author.Tests.{ne_eqb}
 use Rattle.daybook.specs.Events.{Buy, Sell}

@@ -1,5 +1,5 @@
 -- The laws of a day book, for every list of events that is entered into a fresh day, of any length; lists have the latest event first. Each
--- is a field of the record DayLaws at the end, which proofs/Laws.antt proves as day-laws: KeptPrices is the field kept-prices.
+-- is a field of the record DayLaws at the end, which proofs/Laws.antt proves as day_laws: KeptPrices is the field kept_prices.
 use Rattle.std.specs.Prelude.{◌≡◌, ℕ, true, false, cond, ◌||◌, [], T, eqb, ltb}
 use Rattle.facts.specs.Lists.{holds}
 use Rattle.ladder.specs.Ladder.{Prices}

@@ -1,4 +1,4 @@
--- The laws of specs/Laws.antt, proved. Other crates see them as fields of filling-laws.
+-- The laws of specs/Laws.antt, proved. Other crates see them as fields of filling_laws.
 use mathlib.Core.Path.{refl}
 use Rattle.ladder.specs.Ladder.{ladder}
 use Rattle.questions.specs.Missing.{present}

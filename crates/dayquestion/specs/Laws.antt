@@ -1,5 +1,5 @@
 -- The laws of questions that are filled from a day, for every list of events that was entered into a fresh one. Each is a field of the record
--- FillingLaws at the end, which proofs/Laws.antt proves as filling-laws: OpeningUntilQuoted is the field opening_until_quoted.
+-- FillingLaws at the end, which proofs/Laws.antt proves as filling_laws: OpeningUntilQuoted is the field opening_until_quoted.
 use Rattle.std.specs.Prelude.{◌≡◌, ◌<◌, true, false, not, ◌&&◌, T, eqb}
 use Rattle.little_endian.specs.Laws.{byte_bound, number_bound}
 use Rattle.ladder.specs.Bands.{Table, well_formed}

@@ -1,4 +1,4 @@
--- The laws of judging. Each is a field of the record JudgingLaws at the end, which proofs/Laws.antt proves as judging-laws: AnyOrderPrice is
+-- The laws of judging. Each is a field of the record JudgingLaws at the end, which proofs/Laws.antt proves as judging_laws: AnyOrderPrice is
 -- the field any_order_price.
 use Rattle.std.specs.Prelude.{◌⊎◌, ◌≡◌, ℕ, ◌+◌, ◌≤◌, ◌<◌, Bool, ◌&&◌, ◌||◌, T, eqb, leb, length, get_or}
 use Rattle.ladder.specs.Bands.{Table, well_formed}

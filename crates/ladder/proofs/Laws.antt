@@ -1,4 +1,4 @@
--- The laws of specs/Laws.antt, proved. Other crates see them as fields of ladder-laws, and nothing else of this folder.
+-- The laws of specs/Laws.antt, proved. Other crates see them as fields of ladder_laws, and nothing else of this folder.
 use mathlib.Core.Path.{◌≡◌, refl, ap, sym, ◌∙◌}
 use Prim.Native.Nat.{ℕ, ◌+◌, ◌-◌, ◌≤◌}
 use native.Mathlib.Nat.{zero-add, le_refl, le_trans, le_of_lt}

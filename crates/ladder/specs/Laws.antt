@@ -1,5 +1,5 @@
 -- The laws of the ladder, over any well-formed table, in the order in which a reader meets the notions: table, list, places, searches, spreads,
--- order. Each is a field of the record LadderLaws at the end, which proofs/Laws.antt proves as ladder-laws: TheLadder is the field the-ladder.
+-- order. Each is a field of the record LadderLaws at the end, which proofs/Laws.antt proves as ladder_laws: TheLadder is the field the_ladder.
 -- That band arithmetic ends where the plain count ends is not a law in this list: it is what the contracts of the calls say.
 use Rattle.std.specs.Prelude.{◌≡◌, ℕ, ◌+◌, ◌-◌, min, ◌≤◌, ◌<◌, Bool, true, false, T, length, get_or}
 use Rattle.facts.specs.Lists.{holds, Rising}

@@ -1,4 +1,4 @@
--- The laws of specs/Laws.antt, proved from the laws of the ladder. Other crates see them as fields of limit-laws.
+-- The laws of specs/Laws.antt, proved from the laws of the ladder. Other crates see them as fields of limit_laws.
 use mathlib.Core.Path.{◌≡◌, refl}
 use Prim.Native.Nat.{ℕ, ◌*◌, ◌≤◌}
 use native.Mathlib.Nat.{mul-le-mul_left, mul-le-mul_right}

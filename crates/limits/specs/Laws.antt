@@ -1,4 +1,4 @@
--- The laws of the limits. Each is a field of the record LimitLaws at the end, which proofs/Laws.antt proves as limit-laws: LimitsAreOrdered is
+-- The laws of the limits. Each is a field of the record LimitLaws at the end, which proofs/Laws.antt proves as limit_laws: LimitsAreOrdered is
 -- the field limits_are_ordered.
 use Rattle.std.specs.Prelude.{◌≡◌, ℕ, ◌*◌, ◌≤◌, T}
 use Rattle.ladder.specs.declared.Found.{Found}

@@ -1,4 +1,4 @@
--- The laws of specs/Laws.antt, proved. Other crates see them as fields of number-laws.
+-- The laws of specs/Laws.antt, proved. Other crates see them as fields of number_laws.
 use mathlib.Core.Path.{◌≡◌}
 use Prim.Native.Nat.{ℕ, ◌+◌, ◌*◌, ◌/◌}
 use native.Mathlib.Nat.{mod-eq_of_lt, div-add-mod', div-div-eq-div-mul}

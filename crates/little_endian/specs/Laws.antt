@@ -1,4 +1,4 @@
--- The laws of numbers in bytes. Each is a field of the record NumberLaws at the end, which proofs/Laws.antt proves as number-laws:
+-- The laws of numbers in bytes. Each is a field of the record NumberLaws at the end, which proofs/Laws.antt proves as number_laws:
 -- NumberReadsBack is the field number_reads_back.
 use Rattle.std.specs.Prelude.{◌≡◌, ℕ, ◌<◌}
 use Rattle.little_endian.specs.Numbers.{number, four_bytes}

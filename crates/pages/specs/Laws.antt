@@ -1,5 +1,5 @@
--- The laws of pages. Each is a field of the record PageLaws at the end, which proofs/Laws.antt proves as page-laws: PagesJoin is the field
--- pages-join.
+-- The laws of pages. Each is a field of the record PageLaws at the end, which proofs/Laws.antt proves as page_laws: PagesJoin is the field
+-- pages_join.
 use Rattle.std.specs.Prelude.{◌≡◌, ℕ, ◌+◌, ◌%◌, ◌≤◌, [], ◌++◌, length, drop}
 use Rattle.text.specs.Decimal.{Text}
 use Rattle.ladder.specs.Ladder.{Prices}

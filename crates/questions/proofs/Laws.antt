@@ -1,4 +1,4 @@
--- The laws of specs/Laws.antt, proved. Other crates see them as fields of question-laws.
+-- The laws of specs/Laws.antt, proved. Other crates see them as fields of question_laws.
 use mathlib.Core.Path.{◌≡◌, refl}
 use Prim.Native.Nat.{ℕ, ◌%◌}
 use native.Mathlib.Omega.{arith}

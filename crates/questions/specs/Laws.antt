@@ -1,5 +1,5 @@
--- The laws of a question's bytes. Each is a field of the record QuestionLaws at the end, which proofs/Laws.antt proves as question-laws:
--- BytesDecode is the field bytes-decode.
+-- The laws of a question's bytes. Each is a field of the record QuestionLaws at the end, which proofs/Laws.antt proves as question_laws:
+-- BytesDecode is the field bytes_decode.
 use Rattle.std.specs.Prelude.{◌≡◌, ◌<◌, Bool, true, ◌&&◌, [], ◌∷◌, T, ltb}
 use Rattle.little_endian.specs.Numbers.{Bytes}
 use Rattle.little_endian.specs.Laws.{byte_bound, number_bound}

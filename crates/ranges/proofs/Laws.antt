@@ -1,4 +1,4 @@
--- The laws of specs/Laws.antt, proved. Other crates see them as fields of range-laws.
+-- The laws of specs/Laws.antt, proved. Other crates see them as fields of range_laws.
 use mathlib.Core.Path.{◌≡◌, refl, ap}
 use Prim.Native.Nat.{ℕ}
 use mathlib.Core.Bool.{Bool, true, false, not, cond, ◌&&◌}

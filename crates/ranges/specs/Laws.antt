@@ -1,4 +1,4 @@
--- The laws of ranges. Each is a field of the record RangeLaws at the end, which proofs/Laws.antt proves as range-laws: BoundsOnLadder is the
+-- The laws of ranges. Each is a field of the record RangeLaws at the end, which proofs/Laws.antt proves as range_laws: BoundsOnLadder is the
 -- field bounds_on_ladder.
 use Rattle.std.specs.Prelude.{◌≡◌, ℕ, false, T}
 use Rattle.ladder.specs.Bands.{Table, well_formed}

@@ -1,4 +1,4 @@
--- The laws of specs/Laws.antt, proved. Other crates see them as fields of text-laws.
+-- The laws of specs/Laws.antt, proved. Other crates see them as fields of text_laws.
 use mathlib.Core.Path.{◌≡◌, refl, sym, ◌∙◌, ap}
 use Prim.Native.Nat.{ℕ, zero, suc, ◌+◌, ◌*◌, ◌-◌, ◌/◌, ◌%◌, ◌^◌, ◌≤◌, ◌<◌}
 use native.Mathlib.Nat.{pow-succ'}

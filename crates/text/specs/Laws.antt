@@ -1,5 +1,5 @@
--- The laws of text. Each is a field of the record TextLaws at the end, which proofs/Laws.antt proves as text-laws: DecimalIs is the field
--- decimal-is.
+-- The laws of text. Each is a field of the record TextLaws at the end, which proofs/Laws.antt proves as text_laws: DecimalIs is the field
+-- decimal_is.
 use Rattle.std.specs.Prelude.{◌≡◌, ℕ, ◌+◌, ◌*◌, ◌-◌, ◌/◌, ◌%◌, ◌^◌, ◌<◌, ◌≤◌, Bool, true, cond, ◌&&◌, [], ◌∷◌, ◌++◌, T, ltb, leb, length, get_or}
 use Rattle.text.specs.Decimal.{Text, digit, decimal}
 use Rattle.text.specs.Ending.{ending_at, Filled}

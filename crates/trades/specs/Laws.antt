@@ -1,5 +1,5 @@
--- The laws of trades. Each is a field of the record TradeLaws at the end, which proofs/Laws.antt proves as trade-laws: TradeNumbers is the
--- field trade-numbers.
+-- The laws of trades. Each is a field of the record TradeLaws at the end, which proofs/Laws.antt proves as trade_laws: TradeNumbers is the
+-- field trade_numbers.
 use Rattle.std.specs.Prelude.{◌≡◌, ℕ, Bool, ◌&&◌, ◌||◌, T, eqb, leb}
 use Rattle.ladder.specs.Bands.{Table, well_formed}
 use Rattle.ladder.specs.Ladder.{Prices, ladder}

@@ -28,8 +28,7 @@ pub overflow_add-result : goal.overflow_add-result
 overflow_add-result c =
     let gap = gap_fits (bands_of c.args.table.now) c.requires.well_formed c.args.scale c.args.y c.requires.over_the_first
     c.requires.up_to_the_last c.bands_below-k.result c.bands_below-k.ensures c.band_at-band.result c.band_at-band.ensures in
-    let fits = rw (← c.product.ensures, ← c.product-2.ensures) at gap in
-    omega (arith, fits)
+    rw (c.product.ensures, c.product-2.ensures) (omega (arith, gap))
 
 pub overflow_add-below : goal.overflow_add-below
 overflow_add-below c = omega (arith, overflow_add-result c)
@@ -39,10 +38,11 @@ overflow_mul-below c = omega (arith, overflow_add-result c)
 
 pub overflow_cast-below : goal.overflow_cast-below
 overflow_cast-below c =
+    let gap = gap_fits (bands_of c.args.table.now) c.requires.well_formed c.args.scale c.args.y c.requires.over_the_first
+    c.requires.up_to_the_last c.bands_below-k.result c.bands_below-k.ensures c.band_at-band.result c.band_at-band.ensures in
     let some = spreads_fit (bands_of c.args.table.now) c.requires.well_formed c.args.scale c.args.y c.requires.over_the_first
     c.requires.up_to_the_last c.bands_below-k.result c.bands_below-k.ensures c.band_at-band.result c.band_at-band.ensures in
-    let fits = rw (← c.product.ensures, ← c.product-2.ensures) at some in
-    omega (arith, overflow_add-result c, fits)
+    rw (c.product.ensures, c.product-2.ensures) (omega (arith, gap, some))
 
 pub returns : goal.returns
 returns c =
