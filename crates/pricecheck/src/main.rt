@@ -44,7 +44,7 @@ fn input_of(got: io::Result<usize>, part: &[u8]) -> Input
         Err(_) => 0,
     };
     Input {
-        bytes: bytes,
+        bytes,
         has_failed: got.is_err(),
     }
 }

@@ -23,7 +23,7 @@ impl Report {
         ensures { result ≡ record { to = to; written = Ok tt } }
     {
         Report {
-            to: to,
+            to,
             written: Ok(()),
         }
     }
