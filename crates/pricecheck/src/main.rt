@@ -115,8 +115,8 @@ fn answered_bytes(input: Input) -> usize
 
 // Makes the page of the questions of a piece, at the end of the text. Answers where it begins.
 fn page_of(index: u32, questions: &[u8], text: &mut [u8]) -> usize
-    requires questions_len_bound { length questions.now ≤ piece_bytes }
-    requires text_len { length text.old ≡ text_bytes }
+    requires fits { length questions.now ≤ piece_bytes }
+    requires whole_text { length text.old ≡ text_bytes }
     ensures inside { result ≤ text_bytes }
     ensures page { drop result text.new ≡ page_from (first_of index) questions.now }
 {
@@ -156,8 +156,8 @@ fn answer_piece(
     piece: &mut [u8],
     text: &mut [u8],
 ) -> Outcome
-    requires piece_len { length piece.old ≡ piece_bytes }
-    requires text_len { length text.old ≡ text_bytes }
+    requires whole_piece { length piece.old ≡ piece_bytes }
+    requires whole_text { length text.old ≡ text_bytes }
     ensures { EndsWith text.new (page_from (first_of index) (answered_part result.input.has_failed result.input.bytes piece.new)) }
 {
     let input = fill(rt, reader, piece);

@@ -18,7 +18,7 @@ fn digit(d: u64) -> u8
 // Writes one character.
 fn put(text: &mut [u8], end: usize, character: u8) -> usize
     requires fits { 1 ≤ end }
-    requires end_in_bounds { end ≤ length text.old }
+    requires inside { end ≤ length text.old }
     ensures start { result + 1 ≡ end }
     ensures text { text.new ≡ ending_at end (character ∷ []) text.old }
 {
@@ -30,7 +30,7 @@ fn put(text: &mut [u8], end: usize, character: u8) -> usize
 // Writes a word.
 pub fn put_word(text: &mut [u8], end: usize, word: &[u8]) -> usize
     requires fits { length word.now ≤ end }
-    requires end_in_bounds { end ≤ length text.old }
+    requires inside { end ≤ length text.old }
     ensures start { result + length word.now ≡ end }
     ensures text { text.new ≡ ending_at end word.now text.old }
 {
@@ -45,9 +45,9 @@ pub fn put_word(text: &mut [u8], end: usize, word: &[u8]) -> usize
 
 // Writes two digits.
 fn put_pair(text: &mut [u8], end: usize, pair: u64) -> usize
-    requires pair_bound { pair < 100 }
+    requires below_100 { pair < 100 }
     requires fits { 2 ≤ end }
-    requires end_in_bounds { end ≤ length text.old }
+    requires inside { end ≤ length text.old }
     ensures start { result + 2 ≡ end }
     ensures text { text.new ≡ ending_at end (two_digits pair) text.old }
 {
@@ -58,7 +58,7 @@ fn put_pair(text: &mut [u8], end: usize, pair: u64) -> usize
 // Writes a number in decimal, two digits at a time, which is quicker than one.
 fn put_decimal(text: &mut [u8], end: usize, n: u64) -> usize
     requires fits { length (decimal n) ≤ end }
-    requires end_in_bounds { end ≤ length text.old }
+    requires inside { end ≤ length text.old }
     ensures start { result + length (decimal n) ≡ end }
     ensures text { text.new ≡ ending_at end (decimal n) text.old }
 {
@@ -77,7 +77,7 @@ fn put_decimal(text: &mut [u8], end: usize, n: u64) -> usize
 // Writes a number in decimal and a character after it.
 pub fn put_field(text: &mut [u8], end: usize, n: u64, after: u8) -> usize
     requires fits { length (field n after) ≤ end }
-    requires end_in_bounds { end ≤ length text.old }
+    requires inside { end ≤ length text.old }
     ensures start { result + length (field n after) ≡ end }
     ensures text { text.new ≡ ending_at end (field n after) text.old }
 {
