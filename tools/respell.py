@@ -1,6 +1,6 @@
 #!/usr/bin/env python3
 """Brings the names of this repository's definitions and lemmas to snake case: from priceAt and first-is-smallest to price_at and
-first_is_smallest. It is run once, at the top, on a tree that /opt/rattle/port/port.py has just turned; on a tree in snake case it
+first_is_smallest. It is run once, at the top, on a tree that the port.py of the toolchain has just turned; on a tree in snake case it
 changes nothing. Functions, exported names, strings, types and modules keep their spelling.
 
 It reads which names the files of specs/ and proofs/ declare, and respells these, wherever they stand in .antt files, in the clauses
