@@ -101,7 +101,8 @@ fn first_shown(table: &[u32], lowest: u32, nine_fold: Reference) -> Found
     ensures { result ≡ first (at_least 1 (cut_lowest lowest nine_fold)) (prices_of table.now) }
 {
     let from = cut_lowest(lowest, nine_fold);
-    if from == lowest {
+    let is_kept = from == lowest;
+    if is_kept {
         return Found::Price(lowest);
     }
     rounding::at_least(table, 1, from as u64)
@@ -114,7 +115,8 @@ fn last_shown(table: &[u32], highest: u32, nine_fold: Reference) -> Found
     ensures { result ≡ latest (at_most 1 (cut_highest highest nine_fold)) (prices_of table.now) }
 {
     let to = cut_highest(highest, nine_fold);
-    if to == highest {
+    let is_kept = to == highest;
+    if is_kept {
         return Found::Price(highest);
     }
     rounding::at_most(table, 1, to as u64)

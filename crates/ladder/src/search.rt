@@ -64,7 +64,8 @@ pub(crate) fn standing_of(table: &[u32], price: u32) -> Standing
     if price < bottom {
         return Standing::OffLadder;
     }
-    if (price - bottom) % band.spread == 0 {
+    let is_on = (price - bottom) % band.spread == 0;
+    if is_on {
         Standing::In(k)
     } else {
         Standing::OffLadder

@@ -58,7 +58,8 @@ fn walk_down(table: &[u32], index: usize, price: u32, n: u64) -> u32
                 left = rest;
             }
         }
-        if k == 0 {
+        let is_first = k == 0;
+        if is_first {
             return at;
         }
         k -= 1;

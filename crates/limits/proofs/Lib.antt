@@ -1,3 +1,3 @@
--- Laws: what other crates see. Either: what the proofs of the two limits share.
+-- Laws: what other crates see. Either: what holds of the two limits alike.
 pub mod Laws
 mod Either

@@ -14,16 +14,16 @@ returns-then-price-bottom c =
     off_below (bands_of c.args.table.now) c.requires c.args.price c.bands_below-k.result c.bands_below-k.ensures
     c.band_at-band.result c.band_at-band.ensures (omega arith)
 
-pub nonzero_rem-price : goal.nonzero_rem-price
-nonzero_rem-price c =
+pub nonzero_rem-is_on : goal.nonzero_rem-is_on
+nonzero_rem-is_on c =
     (band_facts (bands_of c.args.table.now) c.requires c.bands_below-k.result (omega arith) c.band_at-band.result c.band_at-band.ensures).spreads
 
-pub returns-then-price-bottom-eq0 : goal.returns-then-price-bottom-eq0
-returns-then-price-bottom-eq0 c =
+pub returns-then-is_on : goal.returns-then-is_on
+returns-then-is_on c =
     on_band (bands_of c.args.table.now) c.requires c.args.price c.bands_below-k.result c.bands_below-k.ensures
-    c.band_at-band.result c.band_at-band.ensures (omega arith) (omega arith) c.if-price-bottom-eq0.true
+    c.band_at-band.result c.band_at-band.ensures (omega arith) (omega arith) c.if-is_on.true
 
-pub returns-else-price-bottom-eq0 : goal.returns-else-price-bottom-eq0
-returns-else-price-bottom-eq0 c =
+pub returns-else-is_on : goal.returns-else-is_on
+returns-else-is_on c =
     off_between (bands_of c.args.table.now) c.requires c.args.price c.bands_below-k.result c.bands_below-k.ensures
-    c.band_at-band.result c.band_at-band.ensures (omega arith) (omega arith) c.if-price-bottom-eq0.false
+    c.band_at-band.result c.band_at-band.ensures (omega arith) (omega arith) c.if-is_on.false

@@ -20,13 +20,13 @@ returns-in-Ends c =
     (told.ends _ refl).1
 
 -- or leaves it
-pub returns-then-k-eq0 : goal.returns-then-k-eq0
-returns-then-k-eq0 c =
+pub returns-then-is_first : goal.returns-then-is_first
+returns-then-is_first c =
     let t = bands_of c.args.table.now in
     let l = c.loop-mils in
     let told = told_down t c.requires.well_formed c.args.price c.args.n l.k l.at l.left c.band_at-band.result c.band_at-band.ensures _
     l.invariant c.in-Leaves.ensures in
-    let first : c.band_at-band.result ≡ band_at t 0 = c.band_at-band.ensures ∙ ap (band_at t) c.if-k-eq0.true in
+    let first : c.band_at-band.result ≡ band_at t 0 = c.band_at-band.ensures ∙ ap (band_at t) c.if-is_first.true in
     sym (down_halts t c.requires.well_formed c.band_at-band.result first c.in-Leaves.rest) ∙ told.leaves _ refl
 
 pub loop-mils-preserved : goal.loop-mils-preserved
@@ -36,6 +36,6 @@ loop-mils-preserved c =
     let told = told_down t c.requires.well_formed c.args.price c.args.n l.k l.at l.left c.band_at-band.result c.band_at-band.ensures _
     l.invariant c.in-Leaves.ensures in
     record {
-      stands = into_previous t c.requires.well_formed l.k l.invariant.stands.index c.if-k-eq0.false c.band_at-band.result c.band_at-band.ensures;
+      stands = into_previous t c.requires.well_formed l.k l.invariant.stands.index c.if-is_first.false c.band_at-band.result c.band_at-band.ensures;
       leads = told.leaves _ refl;
     }
