@@ -1,10 +1,11 @@
 /*
  * Hendovita: price checks for the Hong Kong continuous trading session.
  *
- * Link with libhendovita.a, for x86-64 Linux; nothing else is needed. Each
- * function of the archive is proved in Rattle to meet its contract, never to
- * trap and to return, whatever its arguments; the comments below are these
- * contracts in words. The compiler that turns it into the archive is trusted.
+ * Link with libhendovita.a, for Linux on x86-64-v2 or later; nothing else is
+ * needed. Each function of the archive is proved in Rattle to meet its
+ * contract, never to trap and to return, whatever its arguments; the comments
+ * below are these contracts in words. The compiler that turns it into the
+ * archive is trusted.
  * Tested and not proved: NULL with length 0, that this header declares what
  * the archive has, and the `static inline` functions, which are plain C.
  *
