@@ -1,13 +1,13 @@
 // The checks on a batch, and its answers one after the other.
-ghost use Rattle.std.specs.Prelude.{◌≡◌, ◌*◌, ◌≤◌, T, length};
-ghost use Rattle.ladder.specs.Layout.{is_table, prices_of};
+ghost use Rattle.std.specs.Prelude.{◌≡◌, ◌*◌, ◌≤◌, length};
+ghost use Rattle.ladder.specs.Layout.{prices_of};
 ghost use Rattle.questions.specs.Record.{question_bytes};
 ghost use Rattle.batch.specs.Record.{answer_bytes};
 ghost use Rattle.batch.specs.Batch.{most_questions, refused, answered, outcome_of, buffer_after};
 
 use super::{ANSWER_BYTES, MOST_QUESTIONS, Outcome, encoding};
 use judging::answers::judge as judge_question;
-use limits::Percentage;
+use limits::terms::Terms;
 use questions::QUESTION_BYTES;
 
 // The answer number of a batch that is turned away.
@@ -22,36 +22,26 @@ fn is_refused(asked: usize, room: usize) -> bool
 }
 
 // Judges the first `count` questions.
-fn answer_each(
-    table: &[u32],
-    percentage: Percentage,
-    questions: &[u8],
-    answers: &mut [u8],
-    count: usize,
-)
-    requires well_formed { T (is_table table.now) }
+fn answer_each(terms: &Terms, questions: &[u8], answers: &mut [u8], count: usize)
     requires few { count ≤ most_questions }
     requires asked { count * question_bytes ≤ length questions.now }
     requires room { count * answer_bytes ≤ length answers.old }
-    ensures { answers.new ≡ answered (prices_of table.now) percentage count questions.now answers.old }
+    ensures { answers.new ≡ answered (prices_of terms.now.table) terms.now.percentage count questions.now answers.old }
 {
-    let mut k = 0;
-    while k < count {
+    for k in 0..count {
         let question = k * QUESTION_BYTES;
         let question_end = question + QUESTION_BYTES;
-        let answer = judge_question(table, percentage, &questions[question..question_end]);
+        let answer = judge_question(terms, &questions[question..question_end]);
         let start = k * ANSWER_BYTES;
         let end = start + ANSWER_BYTES;
         encoding::encode(&mut answers[start..end], answer);
-        k += 1;
     }
 }
 
 // Judges each question of a batch into the buffer of its answers.
-pub fn judge(table: &[u32], percentage: Percentage, questions: &[u8], answers: &mut [u8]) -> Outcome
-    requires { T (is_table table.now) }
+pub fn judge(terms: &Terms, questions: &[u8], answers: &mut [u8]) -> Outcome
     ensures outcome { result ≡ outcome_of questions.now answers.old }
-    ensures buffer { answers.new ≡ buffer_after (prices_of table.now) percentage questions.now answers.old }
+    ensures buffer { answers.new ≡ buffer_after (prices_of terms.now.table) terms.now.percentage questions.now answers.old }
 {
     if is_refused(questions.len(), answers.len()) {
         return Outcome {
@@ -60,7 +50,7 @@ pub fn judge(table: &[u32], percentage: Percentage, questions: &[u8], answers: &
         };
     }
     let count = questions.len() / QUESTION_BYTES;
-    answer_each(table, percentage, questions, answers, count);
+    answer_each(terms, questions, answers, count);
     Outcome {
         number: 0,
         count: count as u32,

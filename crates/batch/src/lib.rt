@@ -1,6 +1,7 @@
 // A batch: many questions, judged into one answer buffer.
 //
-// The calls of this file use the Phase 1 table and 5 percent. That of `batches` is lent a table and holds for every well-formed one.
+// The calls of this file use the Phase 1 table and 5 percent. That of `batches` takes terms and holds for every well-formed table
+// and any percentage.
 #![tactic(auto)]
 
 pub mod batches; // batches.rt: the checks on a batch, and its answers one after the other
@@ -12,7 +13,7 @@ ghost use Rattle.ladder.specs.Ladder.{ladder};
 ghost use Rattle.limits.specs.Limits.{five_percent};
 ghost use Rattle.batch.specs.Batch.{outcome_of, buffer_after};
 
-use limits::five_percent;
+use limits::terms::usual;
 
 // How many bytes an answer has.
 pub const ANSWER_BYTES: usize = 12;
@@ -22,7 +23,7 @@ pub const MOST_QUESTIONS: usize = 1000;
 
 // The outcome of a batch: 0 and how many questions were judged, or 1 and 0.
 #[repr(C)]
-#[derive(Clone, Copy)]
+#[derive(Clone, Copy, Debug, PartialEq, Eq)]
 pub struct Outcome {
     pub number: u32,
     pub count: u32,
@@ -34,6 +35,5 @@ pub fn judge_batch(questions: &[u8], answers: &mut [u8]) -> Outcome
     ensures outcome { result ≡ outcome_of questions.now answers.old }
     ensures buffer { answers.new ≡ buffer_after (ladder phase1) five_percent questions.now answers.old }
 {
-    let table = ladder::table::phase_1();
-    batches::judge(&table, five_percent(), questions, answers)
+    batches::judge(&usual(), questions, answers)
 }

@@ -1,10 +1,10 @@
 -- The answers to orders and trades by places: the definitions of ranges, judging and trades once more, with limits and spreads as in Limits.
 -- Over any well-formed table and any percentage.
+use Rattle.std.specs.Prelude.{Option, Some, None, Ok, Err}
 use mathlib.Core.Path.{◌≡◌, refl, ap}
 use Prim.Native.Nat.{ℕ, zero, suc}
 use mathlib.Core.Bool.{cond}
 use lib.Dec.{T}
-use Rattle.ladder.specs.declared.Found.{Found}
 use Rattle.ladder.specs.Bands.{Table, well_formed}
 use Rattle.ladder.specs.Ladder.{Prices, ladder}
 use Rattle.ladder.specs.Places.{place_of}
@@ -13,14 +13,12 @@ use Rattle.limits.specs.Limits.{lower_limit_found, upper_limit_found}
 use Rattle.questions.specs.declared.Reference.{Reference}
 use Rattle.questions.specs.declared.Reference.TheVariants.{Missing, Price}
 use Rattle.questions.specs.declared.References.{References}
+use Rattle.questions.specs.declared.Question.{Question}
+use Rattle.rules.specs.declared.Chosen.{Chosen}
 use Rattle.rules.specs.declared.Queues.{Queues}
 use Rattle.rules.specs.declared.Rule.{Rule}
 use Rattle.rules.specs.declared.Rule.TheVariants.{BuyLimit, BuyEnhanced, BuySpecial, SellLimit, SellEnhanced, SellSpecial}
-use Rattle.rules.specs.declared.Choice.{Choice}
-use Rattle.rules.specs.declared.Choice.TheVariants.{Chosen, Unknown}
-use Rattle.questions.specs.declared.Decoded.{Decoded}
-use Rattle.questions.specs.declared.Decoded.TheVariants.{Asked, WrongLength}
-use Rattle.questions.specs.Missing.{least, greatest, price_or}
+use Rattle.questions.specs.Missing.{as_reference, least, greatest, price_or}
 use Rattle.little_endian.specs.Numbers.{Bytes}
 use Rattle.questions.specs.Record.{decoded}
 use Rattle.questions.specs.Checks.{any_off}
@@ -28,11 +26,9 @@ use Rattle.rules.specs.Checks.{disagree, unopposed}
 use Rattle.rules.specs.Rules.{chosen, ask_of, bid_of}
 use Rattle.ranges.specs.declared.Range.{Range}
 use Rattle.ranges.specs.declared.Refusal.TheVariants.{UnknownCode, OffLadder, Disagreement}
-use Rattle.ranges.specs.declared.Reading.{Reading}
-use Rattle.ranges.specs.declared.Reading.TheVariants.{Permitted, Refused}
-use Rattle.ranges.specs.Bounds.{as_reference, from_reference, enhanced_spreads, enhanced_above, enhanced_below, bottom, top}
+use Rattle.ranges.specs.Bounds.{from_reference, enhanced_spreads, enhanced_above, enhanced_below, bottom, top}
 use Rattle.ranges.specs.Permitted.{buy_reference, sell_reference, lowest_of, highest_of, nine_fold_reference, range_of}
-use Rattle.ranges.specs.Readings.{in_order, reading_by, reading_on, reading_of}
+use Rattle.ranges.specs.Readings.{Reading, in_order, reading_by, reading_on, reading_of}
 use Rattle.judging.specs.declared.Answer.{Answer}
 use Rattle.judging.specs.declared.Shown.{Shown}
 use Rattle.judging.specs.Shown.{shown_of}
@@ -99,11 +95,13 @@ abbrev range : ℕ → ℕ → Reference → Range
 range lowest highest nine = record { lowest = lowest; highest = highest; nine_fold = nine }
 
 -- the reading of codes and references
-abbrev reading : Prices → Percentage → Choice → References → Reading
-reading l percent Unknown r = Refused UnknownCode
-reading l percent (Chosen rule q) r =
-    in_order (any_off l r) (disagree q r) (unopposed rule q)
-    (Permitted (range (lowest_by l percent rule q r) (highest_by l percent rule q r) (nine_fold_reference q r.previous_close r.nominal)))
+abbrev reading : Prices → Percentage → Option Chosen → References → Reading
+reading l percent None r = Err UnknownCode
+reading l percent (Some c) r =
+    in_order (any_off l r) (disagree c.queues r) (unopposed c.rule c.queues)
+    (Ok
+    (range (lowest_by l percent c.rule c.queues r) (highest_by l percent c.rule c.queues r)
+    (nine_fold_reference c.queues r.previous_close r.nominal)))
 
 -- the answer by a reading: its range worked out, then the number and what is shown
 unfoldable pub shown_by : Prices → ℕ → ℕ → Reference → Shown
@@ -113,14 +111,14 @@ abbrev answer_at : Prices → ℕ → ℕ → ℕ → Reference → Answer
 answer_at l p lowest highest nine = answer_with (verdict_number (verdict_of l (range lowest highest nine) p)) (shown_by l lowest highest nine)
 
 abbrev answer_for : Prices → Reading → ℕ → Answer
-answer_for l (Permitted x) p =
+answer_for l (Ok x) p =
     settled x.lowest (λ a. settled x.highest (λ b. settled_reference x.nine_fold (λ nine. answer_at l p a b nine)))
-answer_for l (Refused refusal) p = refused_answer refusal
+answer_for l (Err refusal) p = refused_answer refusal
 
 -- the answers to a question and to a trade
-abbrev answer : Prices → Percentage → Decoded → Answer
-answer l percent (Asked q) = answer_for l (reading l percent (chosen q.codes q.references) q.references) q.price
-answer l percent WrongLength = none_shown wrong_length
+abbrev answer : Prices → Percentage → Option Question → Answer
+answer l percent (Some q) = answer_for l (reading l percent (chosen q.codes q.references) q.references) q.price
+answer l percent None = none_shown wrong_length
 
 unfoldable pub judged_by : Prices → Percentage → Bytes → Answer
 judged_by l percent s = answer l percent (decoded s)
@@ -128,9 +126,9 @@ judged_by l percent s = answer l percent (decoded s)
 unfoldable pub trade_judged_by : Prices → Percentage → ℕ → TradeReferences → Answer
 trade_judged_by l percent p r =
     trade_by l
-    (cond (any_trade_off l r) (Refused OffLadder)
-    (cond (trade_disagrees r) (Refused Disagreement)
-    (Permitted
+    (cond (any_trade_off l r) (Err OffLadder)
+    (cond (trade_disagrees r) (Err Disagreement)
+    (Ok
     (range
     (price_or (bottom l) (least (low_limit l percent r.previous_close) (least r.lowest_bid r.lowest_ask)))
     (price_or (top l) (greatest (high_limit l percent r.previous_close) (greatest r.highest_bid r.highest_ask)))
@@ -141,12 +139,12 @@ trade_judged_by l percent p r =
 
 same_for : (l : Prices) (x : Reading) (p : ℕ) → answer_by l x p ≡ answer_for l x p
 unfolding shown_by
-same_for l (Permitted x) p = rw (is_settled, is_settled, is_settled_reference)
-same_for l (Refused refusal) p = refl
+same_for l (Ok x) p = rw (is_settled, is_settled, is_settled_reference)
+same_for l (Err refusal) p = refl
 
 module _ (t : Table) (formed : T (well_formed t)) (percent : Percentage) where
   -- what is found from a reference is the same, where it is from each price
-  same_from : (f g : ℕ → Found) → ((p : ℕ) → f p ≡ g p) → (r : Reference) → from_reference f r ≡ from_reference g r
+  same_from : (f g : ℕ → Option ℕ) → ((p : ℕ) → f p ≡ g p) → (r : Reference) → from_reference f r ≡ from_reference g r
   same_from f g same Missing = refl
   same_from f g same (Price p) = ap as_reference (same p)
 
@@ -180,17 +178,17 @@ module _ (t : Table) (formed : T (well_formed t)) (percent : Percentage) where
   same_highest SellEnhanced q r = ap (price_or (top (ladder t))) (same_high (sell_reference q r.previous_close r.day_high))
   same_highest SellSpecial q r = refl
 
-  same_reading : (choice : Choice) (r : References) → reading_on (ladder t) percent choice r ≡ reading (ladder t) percent choice r
+  same_reading : (choice : Option Chosen) (r : References) → reading_on (ladder t) percent choice r ≡ reading (ladder t) percent choice r
   unfolding reading_by range_of
-  same_reading Unknown r = refl
-  same_reading (Chosen rule q) r = rw (same_lowest rule q r, same_highest rule q r)
+  same_reading None r = refl
+  same_reading (Some c) r = rw (same_lowest c.rule c.queues r, same_highest c.rule c.queues r)
 
-  same_answer : (d : Decoded) → answer_decoded (ladder t) percent d ≡ answer (ladder t) percent d
+  same_answer : (d : Option Question) → answer_decoded (ladder t) percent d ≡ answer (ladder t) percent d
   unfolding reading_of
-  same_answer (Asked q) =
+  same_answer (Some q) =
       let choice = chosen q.codes q.references in
       rw (same_reading choice q.references) (same_for (ladder t) (reading (ladder t) percent choice q.references) q.price)
-  same_answer WrongLength = refl
+  same_answer None = refl
 
   pub same_judged : (s : Bytes) → judged (ladder t) percent s ≡ judged_by (ladder t) percent s
   unfolding judged judged_by

@@ -1,7 +1,5 @@
 -- Lines A to M of "Prices worked out", each right or wrong by the definitions. Prices are mils.
-use Rattle.std.specs.Prelude.{◌≡◌, ℕ, zero, suc, ◌/◌, ◌%◌, Bool, true, false, ◌&&◌, List, [], ◌∷◌, ◌++◌, eqb}
-use Rattle.ladder.specs.declared.Found.{Found}
-use Rattle.ladder.specs.declared.Found.TheVariants as found
+use Rattle.std.specs.Prelude.{◌≡◌, ℕ, zero, suc, ◌/◌, ◌%◌, Bool, true, false, ◌&&◌, List, [], ◌∷◌, ◌++◌, eqb, Option, Some, None}
 use Rattle.ladder.specs.Bands.{phase1}
 use Rattle.ladder.specs.Ladder.{Prices, ladder}
 use Rattle.limits.specs.Limits.{five_percent, lower_limit_found, upper_limit_found}
@@ -93,9 +91,9 @@ pub data Line : Type 0 where
 abbrev pub is : Answer → ℕ → ℕ → ℕ → Bool
 is a number lowest highest = eqb a.number number && eqb a.lowest lowest && eqb a.highest highest
 
-abbrev pub finds : Found → ℕ → Bool
-finds (found.Price p) q = eqb p q
-finds found.Nothing q = false
+abbrev pub finds : Option ℕ → ℕ → Bool
+finds (Some p) q = eqb p q
+finds None q = false
 
 -- every one of a list passes a test
 unfoldable pub every : {A : Type 0} → (A → Bool) → List A → Bool

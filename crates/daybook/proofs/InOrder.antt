@@ -7,7 +7,7 @@ use mathlib.Core.List.{[], ◌∷◌}
 use lib.Dec.{eqb}
 use borrow.Author.Tests.{le-ltb, ltb-false, eqb-true}
 use Rattle.facts.specs.Lists.{holds}
-use Rattle.facts.proofs.Tests.{or_false, true_is_false}
+use Rattle.std.proofs.lemmas.Bool.{or_parts, true≢false}
 use Rattle.facts.proofs.Numbers.{of_smaller, of_larger}
 use Rattle.ladder.specs.Ladder.{Prices}
 use Rattle.questions.specs.declared.Reference.{Reference}
@@ -26,8 +26,8 @@ use Rattle.daybook.specs.Laws.{QuotesInOrder, TradedInOrder, DayInOrder}
 -- a pair that takes in one more price
 pair_kept : (p : ℕ) (low high : Reference) → bad_pair low high ≡ false → bad_pair (least (Price p) low) (greatest (Price p) high) ≡ false
 pair_kept p Missing Missing e = le-ltb p p (omega arith)
-pair_kept p Missing (Price y) e = true_is_false e
-pair_kept p (Price x) Missing e = true_is_false e
+pair_kept p Missing (Price y) e = absurd (true≢false e)
+pair_kept p (Price x) Missing e = absurd (true≢false e)
 pair_kept p (Price x) (Price y) e = let f = ltb-false y x e in le-ltb (max p y) (min p x) (omega arith)
 
 -- a price beside the least, and beside the greatest, that took it in
@@ -82,7 +82,7 @@ emptied_in_order l q s =
       pair = s.pair;
       from_lowest = s.from_lowest;
       to_highest = s.to_highest;
-      current_is_last = λ there. true_is_false (sym there);
+      current_is_last = λ there. absurd (true≢false (sym there));
     }
 
 meet_none : (bid : Reference) → meet bid Missing ≡ false
@@ -126,7 +126,7 @@ event_in_order l d e s n = by_kind e.kind bid ask buy sell trade none
           close_on = s.close_on;
           bids = quoted_in_order l p both.0 d.bids s.bids;
           asks = s.asks;
-          apart = (or_false (meet (Price p) d.asks.current) false both.1).0;
+          apart = (or_parts (meet (Price p) d.asks.current) false both.1).0;
           traded = s.traded;
         })
 

@@ -5,6 +5,8 @@ use Rattle.ladder.specs.Ladder.{Prices}
 use Rattle.questions.specs.declared.Reference.{Reference}
 use Rattle.questions.specs.declared.Reference.TheVariants.{Price}
 use Rattle.questions.specs.Missing.{present, is_below}
+use Rattle.daybook.specs.declared.Told.{Told}
+use Rattle.daybook.specs.declared.Told.TheVariants.{Accepted, UnknownEvent, OffLadder, QuotesCross}
 use Rattle.daybook.specs.Events.{Event, Buy, Sell, best_bid, best_ask, buy_queue_empty, sell_queue_empty, system_trade, History}
 use Rattle.daybook.specs.Kept.{current_of}
 
@@ -39,6 +41,13 @@ off_ladder_number = 12
 
 abbrev pub cross_number : ℕ
 cross_number = 13
+
+-- the number of what an event or a close is told
+abbrev pub told_number : Told → ℕ
+told_number Accepted = 0
+told_number UnknownEvent = unknown_number
+told_number OffLadder = off_ladder_number
+told_number QuotesCross = cross_number
 
 -- the number of an event, by the current bid and ask: 0 where it is accepted, else the first that applies
 unfoldable pub event_number : Prices → Reference → Reference → Event → ℕ

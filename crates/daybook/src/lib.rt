@@ -11,13 +11,14 @@ ghost use Rattle.std.specs.Prelude.{◌≡◌};
 ghost use Rattle.ladder.specs.Bands.{phase1};
 ghost use Rattle.ladder.specs.Ladder.{ladder};
 ghost use Rattle.daybook.specs.Events.{event, best_bid, best_ask, buy_queue_empty, sell_queue_empty, system_trade};
+ghost use Rattle.daybook.specs.Accepted.{told_number};
 ghost use Rattle.daybook.specs.Days.{opened, entered};
 
 use questions::Reference;
 
 // What is kept of the bids, or of the asks: the current one, which is missing where the queue is empty; the last one, which is the current
 // one where there is one; the lowest and the highest so far.
-#[derive(Clone, Copy)]
+#[derive(Clone, Copy, Debug, PartialEq, Eq)]
 pub struct Quotes {
     pub current: Reference,
     pub last: Reference,
@@ -26,14 +27,14 @@ pub struct Quotes {
 }
 
 // The lowest and the highest price of the System trades so far.
-#[derive(Clone, Copy)]
+#[derive(Clone, Copy, Debug, PartialEq, Eq)]
 pub struct Traded {
     pub low: Reference,
     pub high: Reference,
 }
 
 // A day of one security.
-#[derive(Clone, Copy)]
+#[derive(Clone, Copy, Debug, PartialEq, Eq)]
 pub struct Day {
     pub previous_close: Reference,
     pub bids: Quotes,
@@ -42,35 +43,33 @@ pub struct Day {
 }
 
 // A number, and the day from now on: 0, or why the event or the close was turned away.
-#[derive(Clone, Copy)]
+#[derive(Clone, Copy, Debug, PartialEq, Eq)]
 pub struct Entered {
     pub number: u32,
     pub day: Day,
 }
 
-// 0, and the numbers of what is turned away: an unknown kind, or a price with an emptied queue; a price off the ladder, or such a close; a bid
-// not below the current ask, or an ask not above the current bid.
-const ACCEPTED: u32 = 0;
-
-const UNKNOWN_EVENT: u32 = 11;
-
-const OFF_LADDER: u32 = 12;
-
-const QUOTES_CROSS: u32 = 13;
+// What an event or a close is told, by its number: 0, or why it is turned away.
+#[derive(Clone, Copy, Debug, PartialEq, Eq)]
+enum Told {
+    Accepted = 0,
+    // An unknown kind, or a price with an emptied queue.
+    UnknownEvent = 11,
+    // A price off the ladder, or such a close.
+    OffLadder = 12,
+    // A bid not below the current ask, or an ask not above the current bid.
+    QuotesCross = 13,
+}
 
 impl Day {
-    // The day as it is, with a number beside it.
-    fn with_number(self, number: u32) -> Entered
-        ensures { result ≡ record { number = number; day = self } }
+    // The day as it is, beside the number of what is told.
+    fn told(self, told: Told) -> Entered
+        ensures { result ≡ record { number = told_number told; day = self } }
     {
-        Entered { number, day: self }
-    }
-
-    // The day from now on.
-    fn accepted(self) -> Entered
-        ensures { result ≡ record { number = 0; day = self } }
-    {
-        self.with_number(ACCEPTED)
+        Entered {
+            number: told as u32,
+            day: self,
+        }
     }
 
     // A fresh day. A previous close that is no ladder price gets 12, and the day then has none.
@@ -80,10 +79,10 @@ impl Day {
     {
         if acceptance::is_off(previous_close) {
             let day = keeping::fresh_day(Reference::Missing);
-            return day.with_number(OFF_LADDER);
+            return day.told(Told::OffLadder);
         }
         let day = keeping::fresh_day(previous_close);
-        day.accepted()
+        day.told(Told::Accepted)
     }
 
     // 1: the best bid is now this price.
@@ -92,16 +91,13 @@ impl Day {
         ensures { result ≡ entered (ladder phase1) self (event best_bid price) }
     {
         if !acceptance::is_on_ladder(price) {
-            return self.with_number(OFF_LADDER);
+            return self.told(Told::OffLadder);
         }
-        let asks = self.asks;
-        let ask = asks.current;
-        if acceptance::do_meet(Reference::Price(price), ask) {
-            return self.with_number(QUOTES_CROSS);
+        if acceptance::do_meet(Reference::Price(price), self.asks.current) {
+            return self.told(Told::QuotesCross);
         }
-        let bids = self.bids;
-        self.bids = keeping::after_quote(bids, price);
-        self.accepted()
+        self.bids = self.bids.quoted(price);
+        self.told(Told::Accepted)
     }
 
     // 2: the best ask is now this price.
@@ -110,16 +106,13 @@ impl Day {
         ensures { result ≡ entered (ladder phase1) self (event best_ask price) }
     {
         if !acceptance::is_on_ladder(price) {
-            return self.with_number(OFF_LADDER);
+            return self.told(Told::OffLadder);
         }
-        let bids = self.bids;
-        let bid = bids.current;
-        if acceptance::do_meet(bid, Reference::Price(price)) {
-            return self.with_number(QUOTES_CROSS);
+        if acceptance::do_meet(self.bids.current, Reference::Price(price)) {
+            return self.told(Told::QuotesCross);
         }
-        let asks = self.asks;
-        self.asks = keeping::after_quote(asks, price);
-        self.accepted()
+        self.asks = self.asks.quoted(price);
+        self.told(Told::Accepted)
     }
 
     // 3: the buy queue is empty. An empty one stays as it is.
@@ -127,9 +120,8 @@ impl Day {
     pub fn buy_queue_empty(mut self) -> Entered
         ensures { result ≡ entered (ladder phase1) self (event buy_queue_empty 0) }
     {
-        let bids = self.bids;
-        self.bids = keeping::after_emptying(bids);
-        self.accepted()
+        self.bids = self.bids.emptied();
+        self.told(Told::Accepted)
     }
 
     // 4: the sell queue is empty.
@@ -137,9 +129,8 @@ impl Day {
     pub fn sell_queue_empty(mut self) -> Entered
         ensures { result ≡ entered (ladder phase1) self (event sell_queue_empty 0) }
     {
-        let asks = self.asks;
-        self.asks = keeping::after_emptying(asks);
-        self.accepted()
+        self.asks = self.asks.emptied();
+        self.told(Told::Accepted)
     }
 
     // 5: a System trade at this price. Bids and asks play no part in it.
@@ -148,11 +139,10 @@ impl Day {
         ensures { result ≡ entered (ladder phase1) self (event system_trade price) }
     {
         if !acceptance::is_on_ladder(price) {
-            return self.with_number(OFF_LADDER);
+            return self.told(Told::OffLadder);
         }
-        let traded = self.traded;
-        self.traded = keeping::after_trade(traded, price);
-        self.accepted()
+        self.traded = self.traded.traded_at(price);
+        self.told(Told::Accepted)
     }
 
     // An event by its kind, 1 to 5. Kinds 3 and 4 come with price 0.
@@ -165,18 +155,18 @@ impl Day {
             2 => self.best_ask(price),
             3 => {
                 if price != 0 {
-                    return self.with_number(UNKNOWN_EVENT);
+                    return self.told(Told::UnknownEvent);
                 }
                 self.buy_queue_empty()
             }
             4 => {
                 if price != 0 {
-                    return self.with_number(UNKNOWN_EVENT);
+                    return self.told(Told::UnknownEvent);
                 }
                 self.sell_queue_empty()
             }
             5 => self.system_trade(price),
-            0 | 6..=4294967295 => self.with_number(UNKNOWN_EVENT),
+            0 | 6..=4294967295 => self.told(Told::UnknownEvent),
         }
     }
 }

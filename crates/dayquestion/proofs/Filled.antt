@@ -1,4 +1,5 @@
 -- What a question is answered that is filled from a day that events led to.
+use Rattle.std.specs.Prelude.{Some, None, Ok, Err}
 use mathlib.Core.Path.{◌≡◌, refl, sym, ap}
 use Prim.Native.Nat.{ℕ, zero, suc, ◌<◌}
 use native.Mathlib.Omega.{arith}
@@ -6,7 +7,8 @@ use mathlib.Core.Bool.{Bool, true, false, not, cond, ◌&&◌, ◌||◌}
 use lib.Dec.{T, ltb}
 use borrow.Author.Tests.{lt-ltb, ne_eqb, not-false}
 use Rattle.little_endian.specs.Laws.{byte_bound, number_bound}
-use Rattle.facts.proofs.Tests.{and_both, true_of, true_is_false}
+use Rattle.facts.proofs.Tests.{and_both, true_of}
+use Rattle.std.proofs.lemmas.Bool.{true≢false}
 use Rattle.ladder.specs.Bands.{Table, well_formed}
 use Rattle.ladder.specs.Ladder.{Prices, ladder}
 use Rattle.ladder.specs.Places.{last_price}
@@ -24,14 +26,12 @@ use Rattle.questions.specs.Laws.{is_writable, Fits}
 use Rattle.questions.proofs.Laws.{question_laws}
 use Rattle.rules.specs.declared.Rule.{Rule}
 use Rattle.rules.specs.declared.Queues.{Queues}
-use Rattle.rules.specs.declared.Choice.TheVariants.{Chosen, Unknown}
 use Rattle.rules.specs.Rules.{known_side, known_type, known_queue, unknown_code, rule_of, queues_of, chosen}
 use Rattle.rules.specs.Checks.{disagree, unopposed}
 use Rattle.ranges.specs.declared.Range.{Range}
 use Rattle.ranges.specs.Laws.{On}
 use Rattle.ranges.proofs.Laws.{range_laws}
 use Rattle.ranges.specs.declared.Refusal.TheVariants.{UnknownCode}
-use Rattle.ranges.specs.declared.Reading.TheVariants.{Permitted, Refused}
 use Rattle.ranges.specs.Permitted.{range_of}
 use Rattle.ranges.specs.Readings.{in_order, reading_by, reading_on, reading_of}
 use Rattle.judging.specs.declared.Verdict.{Verdict}
@@ -100,12 +100,12 @@ agree : (bid ask last_bid last_ask close low high nominal : Reference) → meet 
     disagree (queues_of (queue_code (present last_bid || present last_ask) (present bid) (present ask)) r) r ≡ false
 unfolding disagree
 agree (Price x) (Price y) (Price a) last_ask close low high nominal apart f g pair = rw (not-false (ltb x y) apart) pair
-agree (Price x) (Price y) Missing last_ask close low high nominal apart f g pair = true_is_false (sym (ap present (f refl)))
+agree (Price x) (Price y) Missing last_ask close low high nominal apart f g pair = absurd (true≢false (sym (ap present (f refl))))
 agree (Price x) Missing (Price a) last_ask close low high nominal apart f g pair = pair
-agree (Price x) Missing Missing last_ask close low high nominal apart f g pair = true_is_false (sym (ap present (f refl)))
+agree (Price x) Missing Missing last_ask close low high nominal apart f g pair = absurd (true≢false (sym (ap present (f refl))))
 agree Missing (Price y) (Price a) (Price b) close low high nominal apart f g pair = pair
 agree Missing (Price y) Missing (Price b) close low high nominal apart f g pair = pair
-agree Missing (Price y) last_bid Missing close low high nominal apart f g pair = true_is_false (sym (ap present (g refl)))
+agree Missing (Price y) last_bid Missing close low high nominal apart f g pair = absurd (true≢false (sym (ap present (g refl))))
 agree Missing Missing Missing Missing close low high nominal apart f g pair = pair
 agree Missing Missing (Price a) last_ask close low high nominal apart f g pair = pair
 agree Missing Missing Missing (Price b) close low high nominal apart f g pair = pair
@@ -132,7 +132,7 @@ verdict_tells u o AboveHighest = other u o 9 (λ e. omega (arith, e)) (λ e. ome
 verdict_tells u o NineFold = other u o 10 (λ e. omega (arith, e)) (λ e. omega (arith, e)) (λ e. omega (arith, e)) (λ e. omega (arith, e))
 
 number_tells : (l : Prices) (unknown off alone : Bool) (range : Range) (p : ℕ) →
-    Tells unknown off (answer_by l (cond unknown (Refused UnknownCode) (in_order off false alone (Permitted range))) p).number
+    Tells unknown off (answer_by l (cond unknown (Err UnknownCode) (in_order off false alone (Ok range))) p).number
 number_tells l true off alone range p =
     record { never_1 = λ e. omega (arith, e); two = λ e. refl; three = λ e. absurd (omega (arith, e)); never_4 = λ e. omega (arith, e) }
 number_tells l false true alone range p =
@@ -149,12 +149,12 @@ module _ (l : Prices) (percent : Percentage) (c : Codes) (r : References) where
   queues : Queues
   queues = queues_of c.queue r
 
-  reading_is : reading_of l percent c r ≡ cond (unknown_code c) (Refused UnknownCode) (reading_by l percent rule queues r)
+  reading_is : reading_of l percent c r ≡ cond (unknown_code c) (Err UnknownCode) (reading_by l percent rule queues r)
   unfolding reading_of chosen rule queues
   reading_is = go (unknown_code c)
     where
       go : (unknown : Bool) →
-          reading_on l percent (cond unknown Unknown (Chosen rule queues)) r ≡ cond unknown (Refused UnknownCode) (reading_by l percent rule queues r)
+          reading_on l percent (cond unknown None (Some (record { rule = rule; queues = queues }))) r ≡ cond unknown (Err UnknownCode) (reading_by l percent rule queues r)
       go true = refl
       go false = refl
 

@@ -1,5 +1,5 @@
 -- A question filled from a day: "takes queue code and references from it, the nominal and the rest from the caller". Document 02 (a).
-use Rattle.std.specs.Prelude.{ℕ, Bool, not, cond, ◌||◌, eqb, length}
+use Rattle.std.specs.Prelude.{ℕ, Bool, not, cond, ◌||◌, eqb, length, Result, Ok, Err, ⊤}
 use Rattle.little_endian.specs.Numbers.{Bytes}
 use Rattle.questions.specs.declared.References.{References}
 use Rattle.questions.specs.declared.Question.{Question}
@@ -8,6 +8,7 @@ use Rattle.questions.specs.Record.{question_bytes, bytes_of}
 use Rattle.judging.specs.Numbers.{wrong_length}
 use Rattle.daybook.specs.declared.Day.{Day}
 use Rattle.dayquestion.specs.declared.Order.{Order}
+use Rattle.dayquestion.specs.declared.WrongLength.{WrongLength}
 
 -- Document 01: "the queue code (1 opening: no bid and no ask yet today; 2 both queues; 3 buy only; 4 sell only; 5 neither)", by whether there
 -- was a bid or an ask today, and whether there is a current bid, and a current ask
@@ -45,10 +46,14 @@ question_from d o =
       references = references_from d o.nominal;
     }
 
--- as bytes, written over s: where s has not as many bytes as a question, 1, and every byte as it was
+-- as bytes, written over s: where s has not as many bytes as a question, it is refused, and keeps every byte
 abbrev pub is_room : Bytes → Bool
 is_room s = eqb (length s) question_bytes
 
+abbrev pub fill_result : Bytes → Result ⊤ WrongLength
+fill_result s = cond (is_room s) (Ok tt) (Err (record {}))
+
+-- the number of that: document 01's for a wrong length
 abbrev pub fill_number : Bytes → ℕ
 fill_number s = cond (is_room s) 0 wrong_length
 

@@ -3,18 +3,18 @@ ghost use Rattle.std.specs.Prelude.{◌≡◌};
 ghost use Rattle.dayquestion.specs.Filling.{queue_code, queue_code_of, references_from};
 
 use daybook::Day;
-use questions::{References, missing};
+use questions::{Reference, References};
 
 // The queue code, by whether there was a bid or an ask today, and whether there is a current bid, and a current ask.
 fn queue_code(any_today: bool, bid: bool, ask: bool) -> u8
     ensures { result ≡ queue_code any_today bid ask }
 {
-    if !any_today {
-        1
-    } else if bid {
-        if ask { 2 } else { 3 }
-    } else {
-        if ask { 4 } else { 5 }
+    match (any_today, bid, ask) {
+        (false, _, _) => 1,
+        (true, true, true) => 2,
+        (true, true, false) => 3,
+        (true, false, true) => 4,
+        (true, false, false) => 5,
     }
 }
 
@@ -22,16 +22,10 @@ fn queue_code(any_today: bool, bid: bool, ask: bool) -> u8
 pub(crate) fn queue_code_of(day: Day) -> u8
     ensures { result ≡ queue_code_of day }
 {
-    let bids = day.bids;
-    let asks = day.asks;
-    let last_bid = bids.last;
-    let last_ask = asks.last;
-    let current_bid = bids.current;
-    let current_ask = asks.current;
     queue_code(
-        missing::is_present(last_bid) | missing::is_present(last_ask),
-        missing::is_present(current_bid),
-        missing::is_present(current_ask),
+        day.bids.last.is_present() | day.asks.last.is_present(),
+        day.bids.current.is_present(),
+        day.asks.current.is_present(),
     )
 }
 
@@ -39,24 +33,14 @@ pub(crate) fn queue_code_of(day: Day) -> u8
 pub(crate) fn references_from(day: Day, nominal: u32) -> References
     ensures { result ≡ references_from day nominal }
 {
-    let bids = day.bids;
-    let asks = day.asks;
-    let traded = day.traded;
-    let current_bid = bids.current;
-    let current_ask = asks.current;
-    let last_bid = bids.last;
-    let last_ask = asks.last;
-    let previous_close = day.previous_close;
-    let day_low = traded.low;
-    let day_high = traded.high;
     References {
-        current_bid,
-        current_ask,
-        last_bid,
-        last_ask,
-        previous_close,
-        day_low,
-        day_high,
-        nominal: missing::reference_of(nominal),
+        current_bid: day.bids.current,
+        current_ask: day.asks.current,
+        last_bid: day.bids.last,
+        last_ask: day.asks.last,
+        previous_close: day.previous_close,
+        day_low: day.traded.low,
+        day_high: day.traded.high,
+        nominal: Reference::from(nominal),
     }
 }

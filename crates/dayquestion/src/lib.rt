@@ -4,14 +4,13 @@
 mod filling; // filling.rt: the queue code and the references of a day
 
 ghost use Rattle.std.specs.Prelude.{◌≡◌};
-ghost use Rattle.dayquestion.specs.Filling.{question_from, fill_number, filled};
+ghost use Rattle.dayquestion.specs.Filling.{question_from, fill_result, filled};
 
 use daybook::Day;
-use judging::answers::WRONG_LENGTH;
 use questions::{Codes, QUESTION_BYTES, Question, encoding};
 
 // What the caller gives of a question; the rest comes from the day. A nominal price of 0 is missing.
-#[derive(Clone, Copy)]
+#[derive(Clone, Copy, Debug, PartialEq, Eq)]
 pub struct Order {
     pub side: u8,
     pub order_type: u8,
@@ -37,15 +36,18 @@ pub fn question(day: Day, order: Order) -> Question
     }
 }
 
-// The same as bytes. Room of not as many bytes as a question has gets 1, and keeps every byte.
-pub fn fill(day: Day, order: Order, room: &mut [u8]) -> u32
-    ensures number { result ≡ fill_number room.old }
+// Room of not as many bytes as a question has.
+#[derive(Clone, Copy, Debug, PartialEq, Eq)]
+pub struct WrongLength;
+
+// The same as bytes. Room of another length is refused, and keeps every byte.
+pub fn fill(day: Day, order: Order, room: &mut [u8]) -> Result<(), WrongLength>
+    ensures result { result ≡ fill_result room.old }
     ensures bytes { room.new ≡ filled day order room.old }
 {
     if room.len() != QUESTION_BYTES {
-        return WRONG_LENGTH;
+        return Err(WrongLength);
     }
-    let encoded = encoding::encode(question(day, order));
-    room.copy_from_slice(&encoded);
-    0
+    room.copy_from_slice(&encoding::encode(question(day, order)));
+    Ok(())
 }

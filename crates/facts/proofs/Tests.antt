@@ -2,7 +2,6 @@
 use mathlib.Core.Path.{◌≡◌, refl}
 use Prim.Native.Nat.{ℕ}
 use borrow.Author.Tests.{leb-true, leb-false, lt-ltb, le-ltb}
-use native.Mathlib.Omega.{arith}
 use mathlib.Core.Bool.{Bool, true, false, not, ◌&&◌, ◌||◌}
 use mathlib.Core.Logic.{◌⊎◌, inl, inr}
 use lib.Dec.{T, leb, ltb}
@@ -31,13 +30,6 @@ pub or_cases : (a b : Bool) → T (a || b) → T a ⊎ T b
 or_cases true b t = inl tt
 or_cases false b t = inr t
 
--- what follows where two cases that differ are one: `cc` shows that 0 is 1
-pub zero_is_one : ◌≡◌ {A = ℕ} 0 1 → ⊥
-zero_is_one z = omega arith
-
-pub true_is_false : {C : Type 0} → true ≡ false → C
-true_is_false e = let z : ◌≡◌ {A = ℕ} 0 1 = cc in absurd (zero_is_one z)
-
 -- two tests that imply each other are the same
 pub same : (a b : Bool) → (T a → T b) → (T b → T a) → a ≡ b
 same true true f g = refl
@@ -58,11 +50,6 @@ true_of b e = rw e tt
 
 pub untrue : (b : Bool) → b ≡ false → T b → ⊥
 untrue b e t = rw e at t
-
--- neither of two
-pub or_false : (a b : Bool) → (a || b) ≡ false → (a ≡ false) × (b ≡ false)
-or_false true b e = absurd (untrue true e tt)
-or_false false b e = (refl, e)
 
 -- a is below b exactly where b is not at most a
 pub below : (a b : ℕ) → ltb a b ≡ not (leb b a)

@@ -21,9 +21,10 @@ ghost use Rattle.interface.specs.Results.{price_found, place_found};
 
 use daybook::Day;
 use daynumbers::{DayNumbers, EnteredNumbers};
-use dayquestion::Order;
+use dayquestion::{Order, WrongLength};
 use judging::Answer;
-use questions::missing;
+use judging::answers::WRONG_LENGTH;
+use questions::Reference;
 
 // A price: `found` is 1, or 0 where there is none, and the price is then 0.
 #[repr(C)]
@@ -76,7 +77,7 @@ pub extern "C" fn hendovita_judge_trade(
 pub extern "C" fn hendovita_up(price: u32, n: u64) -> PriceFound
     ensures { result ≡ price_found (spreads_up (ladder phase1) price n) }
 {
-    results::price_found(ladder::up(price, n))
+    PriceFound::from(ladder::up(price, n))
 }
 
 // The price n spreads down; none from a price off the ladder.
@@ -84,7 +85,7 @@ pub extern "C" fn hendovita_up(price: u32, n: u64) -> PriceFound
 pub extern "C" fn hendovita_down(price: u32, n: u64) -> PriceFound
     ensures { result ≡ price_found (spreads_down (ladder phase1) price n) }
 {
-    results::price_found(ladder::down(price, n))
+    PriceFound::from(ladder::down(price, n))
 }
 
 // The price at a place; none above the last place.
@@ -92,7 +93,7 @@ pub extern "C" fn hendovita_down(price: u32, n: u64) -> PriceFound
 pub extern "C" fn hendovita_price_at(place: u32) -> PriceFound
     ensures { result ≡ price_found (price_at place (ladder phase1)) }
 {
-    results::price_found(ladder::price_at(place))
+    PriceFound::from(ladder::price_at(place))
 }
 
 // The place of a price; none off the ladder.
@@ -100,7 +101,7 @@ pub extern "C" fn hendovita_price_at(place: u32) -> PriceFound
 pub extern "C" fn hendovita_place_of(price: u32) -> PlaceFound
     ensures { result ≡ place_found (place_of price (ladder phase1)) }
 {
-    results::place_found(ladder::place_of(price))
+    PlaceFound::from(ladder::place_of(price))
 }
 
 // The lower limit of a reference; none off the ladder.
@@ -108,7 +109,7 @@ pub extern "C" fn hendovita_place_of(price: u32) -> PlaceFound
 pub extern "C" fn hendovita_lower_limit(reference: u32) -> PriceFound
     ensures { result ≡ price_found (lower_limit_found (ladder phase1) five_percent reference) }
 {
-    results::price_found(limits::lower_limit(reference))
+    PriceFound::from(limits::lower_limit(reference))
 }
 
 // The upper limit of a reference; none off the ladder.
@@ -116,7 +117,7 @@ pub extern "C" fn hendovita_lower_limit(reference: u32) -> PriceFound
 pub extern "C" fn hendovita_upper_limit(reference: u32) -> PriceFound
     ensures { result ≡ price_found (upper_limit_found (ladder phase1) five_percent reference) }
 {
-    results::price_found(limits::upper_limit(reference))
+    PriceFound::from(limits::upper_limit(reference))
 }
 
 // The lower 5 percent limit of a reference, before spreads are looked at; none off the ladder.
@@ -124,7 +125,7 @@ pub extern "C" fn hendovita_upper_limit(reference: u32) -> PriceFound
 pub extern "C" fn hendovita_five_percent_lower(reference: u32) -> PriceFound
     ensures { result ≡ price_found (percent_lower_found (ladder phase1) five_percent reference) }
 {
-    results::price_found(limits::five_percent_lower(reference))
+    PriceFound::from(limits::five_percent_lower(reference))
 }
 
 // The upper 5 percent limit of a reference, before spreads are looked at; none off the ladder.
@@ -132,7 +133,7 @@ pub extern "C" fn hendovita_five_percent_lower(reference: u32) -> PriceFound
 pub extern "C" fn hendovita_five_percent_upper(reference: u32) -> PriceFound
     ensures { result ≡ price_found (percent_upper_found (ladder phase1) five_percent reference) }
 {
-    results::price_found(limits::five_percent_upper(reference))
+    PriceFound::from(limits::five_percent_upper(reference))
 }
 
 // A fresh day with this previous close; 0 is none. A close that is no ladder price gets 12, and the day has none.
@@ -140,7 +141,7 @@ pub extern "C" fn hendovita_five_percent_upper(reference: u32) -> PriceFound
 pub extern "C" fn hendovita_open_day(previous_close: u32) -> EnteredNumbers
     ensures { result ≡ entered_numbers (opened (ladder phase1) (reference_of previous_close)) }
 {
-    daynumbers::entered_numbers(Day::fresh(missing::reference_of(previous_close)))
+    EnteredNumbers::from(Day::fresh(Reference::from(previous_close)))
 }
 
 // The day after an event, with 0; or the day as it was, with 11, 12 or 13. The day may be any numbers.
@@ -148,7 +149,7 @@ pub extern "C" fn hendovita_open_day(previous_close: u32) -> EnteredNumbers
 pub extern "C" fn hendovita_enter_event(day: DayNumbers, kind: u32, price: u32) -> EnteredNumbers
     ensures { result ≡ entered_numbers (entered (ladder phase1) (day_from day) (event kind price)) }
 {
-    daynumbers::entered_numbers(daynumbers::day_from(day).enter(kind, price))
+    EnteredNumbers::from(Day::from(day).enter(kind, price))
 }
 
 // Writes the question of an order, filled from the day. A buffer that has not as many bytes as a question gets 1, and keeps every byte.
@@ -170,5 +171,8 @@ pub extern "C" fn hendovita_fill_question(
         price,
         nominal,
     };
-    dayquestion::fill(daynumbers::day_from(day), order, question)
+    match dayquestion::fill(Day::from(day), order, question) {
+        Ok(()) => 0,
+        Err(WrongLength) => WRONG_LENGTH,
+    }
 }

@@ -4,7 +4,8 @@ use Prim.Native.Nat.{ℕ}
 use borrow.Author.Tests.{le-ltb}
 use mathlib.Core.Bool.{Bool, true, false, not, cond, ◌&&◌}
 use lib.Dec.{T, eqb, leb}
-use Rattle.facts.proofs.Tests.{below, true_is_false}
+use Rattle.facts.proofs.Tests.{below}
+use Rattle.std.proofs.lemmas.Bool.{true≢false}
 use Rattle.ladder.specs.Bands.{Table, well_formed}
 use Rattle.ladder.specs.Ladder.{ladder, is_ladder_price}
 use Rattle.ladder.proofs.Laws.{ladder_laws}
@@ -33,7 +34,7 @@ accepts t wf range p =
         eqb (verdict_number
         (cond o OutsideLadder (cond (not h) BetweenPrices (cond (not x) BelowLowest (cond (not y) AboveHighest (cond (not z) NineFold Accepted)))))) 0 ≡
         (h && (x && y && z))
-    go true true x y z f = true_is_false (f tt)
+    go true true x y z f = absurd (true≢false (f tt))
     go true false x y z f = refl
     go false false x y z f = refl
     go false true false y z f = refl

@@ -1,12 +1,11 @@
 -- Bounds cut by the nine-fold rule: a ladder price lies within them exactly where it is shown; and the range between them.
+use Rattle.std.specs.Prelude.{Option, Some, None}
 use mathlib.Core.Path.{◌≡◌, refl}
 use Prim.Native.Nat.{ℕ, ◌*◌, ◌≤◌, ◌<◌}
 use native.Mathlib.Omega.{arith}
 use mathlib.Core.Bool.{Bool, true, false, cond, ◌&&◌}
 use lib.Dec.{T, leb, ltb, leb→le, le→leb, ltb→lt, lt→ltb}
 use borrow.Author.Tests.{ltb-true, ltb-false}
-use Rattle.ladder.specs.declared.Found.{Found}
-use Rattle.ladder.specs.declared.Found.TheVariants as found
 use Rattle.ladder.specs.Bands.{Table, well_formed}
 use Rattle.ladder.specs.Ladder.{ladder, is_ladder_price}
 use Rattle.ladder.specs.Search.{first, latest, at_least, at_most}
@@ -63,40 +62,40 @@ unfolding shown_of
 shown_none t wf range n =
     rw ((ladder_laws.first_is_smallest t wf (is_shown range)).none n, (ladder_laws.latest_is_largest t wf (is_shown range)).none n)
 
-shown_some : (t : Table) (range : Range) (a b : ℕ) → first (is_shown range) (ladder t) ≡ found.Price a →
-    latest (is_shown range) (ladder t) ≡ found.Price b → record { lowest = a; highest = b } ≡ shown_of (ladder t) range
+shown_some : (t : Table) (range : Range) (a b : ℕ) → first (is_shown range) (ladder t) ≡ Some a →
+    latest (is_shown range) (ladder t) ≡ Some b → record { lowest = a; highest = b } ≡ shown_of (ladder t) range
 unfolding shown_of
 shown_some t range a b e f = rw (e, f)
 
 -- both cut bounds rounded to the ladder are the first and the last price of the window, or there is none
 pub shown_cut : (t : Table) → T (well_formed t) → (range : Range) (from to : ℕ) → from ≡ cut_lowest range.lowest range.nine_fold →
-    to ≡ cut_highest range.highest range.nine_fold → (f g : Found) → f ≡ first (at_least 1 from) (ladder t) →
+    to ≡ cut_highest range.highest range.nine_fold → (f g : Option ℕ) → f ≡ first (at_least 1 from) (ladder t) →
     g ≡ latest (at_most 1 to) (ladder t) → shown_between f g ≡ shown_of (ladder t) range
 shown_cut t wf range from to a b = go
   where
     shown : Window t (is_shown range) from to
     shown = window t wf range from to a b
 
-    both : (x y : ℕ) → found.Price x ≡ first (at_least 1 from) (ladder t) → found.Price y ≡ latest (at_most 1 to) (ladder t) → (v : Bool) → ltb y x ≡ v →
+    both : (x y : ℕ) → Some x ≡ first (at_least 1 from) (ladder t) → Some y ≡ latest (at_most 1 to) (ladder t) → (v : Bool) → ltb y x ≡ v →
         cond v none_between (record { lowest = x; highest = y }) ≡ shown_of (ladder t) range
     both x y e f true m = shown_none t wf range (none_between_lem t wf (is_shown range) from to shown x y e f (ltb-true y x m))
     both x y e f false m =
         let up = ltb-false y x m in
         shown_some t range x y (first_found t wf (is_shown range) from to shown x y e f up) (latest_found t wf (is_shown range) from to shown x y e f up)
 
-    go : (f g : Found) → f ≡ first (at_least 1 from) (ladder t) → g ≡ latest (at_most 1 to) (ladder t) → shown_between f g ≡ shown_of (ladder t) range
-    go found.Nothing g e f = shown_none t wf range (none_from t wf (is_shown range) from to shown e)
-    go (found.Price x) found.Nothing e f = shown_none t wf range (none_to t wf (is_shown range) from to shown f)
-    go (found.Price x) (found.Price y) e f = both x y e f (ltb y x) refl
+    go : (f g : Option ℕ) → f ≡ first (at_least 1 from) (ladder t) → g ≡ latest (at_most 1 to) (ladder t) → shown_between f g ≡ shown_of (ladder t) range
+    go None g e f = shown_none t wf range (none_from t wf (is_shown range) from to shown e)
+    go (Some x) None e f = shown_none t wf range (none_to t wf (is_shown range) from to shown f)
+    go (Some x) (Some y) e f = both x y e f (ltb y x) refl
 
 -- a price of the ladder is the first from itself on, and the last up to itself
 module _ (t : Table) (wf : T (well_formed t)) (p : ℕ) (h : T (is_ladder_price p t)) where
-  pub first_from_itself : first (at_least 1 p) (ladder t) ≡ found.Price p
+  pub first_from_itself : first (at_least 1 p) (ladder t) ≡ Some p
   first_from_itself =
       (ladder_laws.first_is_smallest t wf (at_least 1 p)).finds p
       (record { on = h; passes = le→leb p (1 * p) (omega arith); extreme = λ x k m. let n : p ≤ 1 * x = leb→le p (1 * x) m in omega arith })
 
-  pub last_up_to_itself : latest (at_most 1 p) (ladder t) ≡ found.Price p
+  pub last_up_to_itself : latest (at_most 1 p) (ladder t) ≡ Some p
   last_up_to_itself =
       (ladder_laws.latest_is_largest t wf (at_most 1 p)).finds p
       (record { on = h; passes = le→leb (1 * p) p (omega arith); extreme = λ x k m. let n : 1 * x ≤ p = leb→le (1 * x) p m in omega arith })

@@ -1,4 +1,5 @@
 -- The laws of specs/Laws.antt, proved. Other crates see them as fields of judging_laws.
+use Rattle.std.specs.Prelude.{Option, Some, None, Ok, Err}
 use mathlib.Core.Logic.{◌⊎◌, inl, inr}
 use mathlib.Core.Path.{◌≡◌, refl, ◌∙◌}
 use Prim.Native.Nat.{ℕ, ◌≤◌, ◌<◌}
@@ -10,22 +11,17 @@ use lib.ListN.{length}
 use borrow.Author.Tests.{eqb-true, eqb-false, eq-eqb, ne_eqb}
 use Rattle.ladder.specs.Bands.{Table, well_formed}
 use Rattle.ladder.specs.Ladder.{ladder, is_ladder_price}
-use Rattle.ladder.specs.declared.Found.{Found}
-use Rattle.ladder.specs.declared.Found.TheVariants.{Price, Nothing}
 use Rattle.ladder.specs.Search.{first, latest, or_else}
 use Rattle.ladder.specs.Laws.{Finds, Least, Greatest}
 use Rattle.facts.proofs.Tests.{and_left, and_right, true_of}
 use Rattle.ladder.proofs.Laws.{ladder_laws}
 use Rattle.limits.specs.declared.Percentage.{Percentage}
-use Rattle.questions.specs.declared.Decoded.{Decoded}
-use Rattle.questions.specs.declared.Decoded.TheVariants.{Asked, WrongLength}
 use Rattle.questions.specs.Record.{question_bytes, codes_of, price_of, references_of, decoded}
 use Rattle.ranges.specs.declared.Range.{Range}
 use Rattle.ranges.specs.declared.Refusal.{Refusal}
 use Rattle.ranges.specs.declared.Refusal.TheVariants.{UnknownCode, OffLadder, Disagreement, NoOpposite}
-use Rattle.ranges.specs.declared.Reading.{Reading}
-use Rattle.ranges.specs.declared.Reading.TheVariants.{Permitted, Refused}
-use Rattle.ranges.specs.Readings.{reading_of}
+use Rattle.questions.specs.declared.Question.{Question}
+use Rattle.ranges.specs.Readings.{Reading, reading_of}
 use Rattle.judging.specs.declared.Verdict.{Verdict}
 use Rattle.judging.specs.declared.Verdict.TheVariants.{Accepted, OutsideLadder, BetweenPrices, BelowLowest, AboveHighest, NineFold}
 use Rattle.judging.specs.Shown.{is_shown, shown_of}
@@ -61,15 +57,15 @@ range_shown t wf range p = go (first (is_shown range) (ladder t)) (latest (is_sh
     largest : Finds Greatest t (is_shown range) (latest (is_shown range) (ladder t))
     largest = ladder_laws.latest_is_largest t wf (is_shown range)
 
-    go : (f g : Found) → first (is_shown range) (ladder t) ≡ f → latest (is_shown range) (ladder t) ≡ g →
+    go : (f g : Option ℕ) → first (is_shown range) (ladder t) ≡ f → latest (is_shown range) (ladder t) ≡ g →
         LadderRange t (record { number = n; lowest = or_else 0 f; highest = or_else 0 g }) ⊎ ((or_else 0 f ≡ 0) × (or_else 0 g ≡ 0))
-    go (Price a) (Price b) e f =
+    go (Some a) (Some b) e f =
         let u = smallest.found a e in
         let v = largest.found b f in
         inl (record { lowest_on = u.on; highest_on = v.on; rises = u.extreme b v.on v.passes })
-    go (Price a) Nothing e f = let u = smallest.found a e in absurd (largest.nothing f a u.on u.passes)
-    go Nothing (Price b) e f = let v = largest.found b f in absurd (smallest.nothing e b v.on v.passes)
-    go Nothing Nothing e f = inr (refl, refl)
+    go (Some a) None e f = let u = smallest.found a e in absurd (largest.nothing f a u.on u.passes)
+    go None (Some b) e f = let v = largest.found b f in absurd (smallest.nothing e b v.on v.passes)
+    go None None e f = inr (refl, refl)
 
 range_or_none : RangeOrNone
 unfolding judged
@@ -77,14 +73,14 @@ range_or_none t wf percent s = go (decoded s)
   where
     by_reading : (reading : Reading) (p : ℕ) →
         LadderRange t (answer_by (ladder t) reading p) ⊎ (((answer_by (ladder t) reading p).lowest ≡ 0) × ((answer_by (ladder t) reading p).highest ≡ 0))
-    by_reading (Permitted range) p = range_shown t wf range p
-    by_reading (Refused refusal) p = inr (refl, refl)
+    by_reading (Ok range) p = range_shown t wf range p
+    by_reading (Err refusal) p = inr (refl, refl)
 
-    go : (d : Decoded) →
+    go : (d : Option Question) →
         LadderRange t (answer_decoded (ladder t) percent d) ⊎
         (((answer_decoded (ladder t) percent d).lowest ≡ 0) × ((answer_decoded (ladder t) percent d).highest ≡ 0))
-    go (Asked q) = by_reading (reading_of (ladder t) percent q.codes q.references) q.price
-    go WrongLength = inr (refl, refl)
+    go (Some q) = by_reading (reading_of (ladder t) percent q.codes q.references) q.price
+    go None = inr (refl, refl)
 
 -- ---- any order price
 
@@ -138,8 +134,8 @@ any_order_price t wf percent s u ns nu same h =
     go : (reading : Reading) → judged (ladder t) percent s ≡ answer_by (ladder t) reading (price_of s) →
         judged (ladder t) percent u ≡ answer_by (ladder t) reading p →
         SameRange t (judged (ladder t) percent s) (judged (ladder t) percent u) p
-    go (Refused x) a b = absurd (not_judged x (rw a at h))
-    go (Permitted range) a b =
+    go (Err x) a b = absurd (not_judged x (rw a at h))
+    go (Ok range) a b =
         record {
           not_refused_lem = rw b (judged_number (verdict_of (ladder t) range p));
           lowest = rw (a, b);
@@ -157,7 +153,7 @@ any_order_price t wf percent s u ns nu same h =
 
 -- 0 or 2 to 10, by every reading
 by_any_reading : (l : List ℕ) (reading : Reading) (p : ℕ) → T (is_question_number (answer_by l reading p).number)
-by_any_reading l (Permitted range) p = go (verdict_of l range p)
+by_any_reading l (Ok range) p = go (verdict_of l range p)
   where
     go : (v : Verdict) → T (is_question_number (verdict_number v))
     go Accepted = tt
@@ -166,15 +162,15 @@ by_any_reading l (Permitted range) p = go (verdict_of l range p)
     go BelowLowest = tt
     go AboveHighest = tt
     go NineFold = tt
-by_any_reading l (Refused UnknownCode) p = tt
-by_any_reading l (Refused OffLadder) p = tt
-by_any_reading l (Refused Disagreement) p = tt
-by_any_reading l (Refused NoOpposite) p = tt
+by_any_reading l (Err UnknownCode) p = tt
+by_any_reading l (Err OffLadder) p = tt
+by_any_reading l (Err Disagreement) p = tt
+by_any_reading l (Err NoOpposite) p = tt
 
 -- 1 to 5 show 0 and 0
 refusal_shows_none : (l : List ℕ) (reading : Reading) (p : ℕ) → T (is_refusal (answer_by l reading p).number) →
     answer_by l reading p ≡ none_shown (answer_by l reading p).number
-refusal_shows_none l (Permitted range) p h = absurd (go (verdict_of l range p) h)
+refusal_shows_none l (Ok range) p h = absurd (go (verdict_of l range p) h)
   where
     go : (v : Verdict) → T (is_refusal (verdict_number v)) → ⊥
     go Accepted h = h
@@ -183,7 +179,7 @@ refusal_shows_none l (Permitted range) p h = absurd (go (verdict_of l range p) h
     go BelowLowest h = h
     go AboveHighest h = h
     go NineFold h = h
-refusal_shows_none l (Refused refusal) p h = refl
+refusal_shows_none l (Err refusal) p h = refl
 
 question_numbers : QuestionNumbers
 question_numbers l percent s =

@@ -1,12 +1,11 @@
 -- A test that passes exactly the ladder prices from one number to another: what going through the ladder finds.
+use Rattle.std.specs.Prelude.{Option, Some, None}
 use mathlib.Core.Path.{◌≡◌, refl, sym}
 use Prim.Native.Nat.{ℕ, ◌*◌, ◌≤◌, ◌<◌}
 use native.Mathlib.Omega.{arith}
 use mathlib.Core.Bool.{Bool, ◌&&◌}
 use lib.Dec.{T, leb, leb→le, le→leb}
 use Rattle.facts.proofs.Tests.{and_left, and_right, and_both, same}
-use Rattle.ladder.specs.declared.Found.{Found}
-use Rattle.ladder.specs.declared.Found.TheVariants.{Price, Nothing}
 use Rattle.ladder.specs.Bands.{Table, well_formed}
 use Rattle.ladder.specs.Ladder.{ladder, is_ladder_price}
 use Rattle.ladder.specs.Search.{first, latest, or_else, at_least, at_most}
@@ -25,13 +24,13 @@ module _ (t : Table) (wf : T (well_formed t)) (test : ℕ → Bool) (from to : �
   under : (x : ℕ) → T (is_ladder_price x t) → T (test x) → T (at_most 1 to x)
   under x h m = le→leb (1 * x) to (let n = (w.within x h m).1 in omega arith)
 
-  pub none_from : Nothing ≡ first (at_least 1 from) (ladder t) → NonePasses t test
+  pub none_from : None ≡ first (at_least 1 from) (ladder t) → NonePasses t test
   none_from e x h m = (ladder_laws.first_is_smallest t wf (at_least 1 from)).nothing (sym e) x h (over x h m)
 
-  pub none_to : Nothing ≡ latest (at_most 1 to) (ladder t) → NonePasses t test
+  pub none_to : None ≡ latest (at_most 1 to) (ladder t) → NonePasses t test
   none_to e x h m = (ladder_laws.latest_is_largest t wf (at_most 1 to)).nothing (sym e) x h (under x h m)
 
-  module _ (a b : ℕ) (e : Price a ≡ first (at_least 1 from) (ladder t)) (f : Price b ≡ latest (at_most 1 to) (ladder t)) where
+  module _ (a b : ℕ) (e : Some a ≡ first (at_least 1 from) (ladder t)) (f : Some b ≡ latest (at_most 1 to) (ladder t)) where
     least : Extreme Least t (at_least 1 from) a
     least = (ladder_laws.first_is_smallest t wf (at_least 1 from)).found a (sym e)
 
@@ -51,7 +50,7 @@ module _ (t : Table) (wf : T (well_formed t)) (test : ℕ → Bool) (from to : �
       v : 1 * b ≤ to
       v = leb→le (1 * b) to greatest.passes
 
-      pub first_found : first test (ladder t) ≡ Price a
+      pub first_found : first test (ladder t) ≡ Some a
       first_found =
           (ladder_laws.first_is_smallest t wf test).finds a
           (record {
@@ -60,7 +59,7 @@ module _ (t : Table) (wf : T (well_formed t)) (test : ℕ → Bool) (from to : �
             extreme = λ x h n. least.extreme x h (over x h n);
           })
 
-      pub latest_found : latest test (ladder t) ≡ Price b
+      pub latest_found : latest test (ladder t) ≡ Some b
       latest_found =
           (ladder_laws.latest_is_largest t wf test).finds b
           (record {
@@ -82,8 +81,8 @@ module _ (t : Table) (wf : T (well_formed t)) (test : ℕ → Bool) (from to : �
       pos : 0 < p
       pos = ladder_laws.never_zero t wf p h
 
-      go : (f g : Found) → first test (ladder t) ≡ f → latest test (ladder t) ≡ g → test p ≡ (leb (or_else 0 f) p && leb p (or_else 0 g))
-      go (Price a) (Price b) e f =
+      go : (f g : Option ℕ) → first test (ladder t) ≡ f → latest test (ladder t) ≡ g → test p ≡ (leb (or_else 0 f) p && leb p (or_else 0 g))
+      go (Some a) (Some b) e f =
           let u = smallest.found a e in
           let v = largest.found b f in
           same (test p) (leb a p && leb p b)
@@ -94,9 +93,9 @@ module _ (t : Table) (wf : T (well_formed t)) (test : ℕ → Bool) (from to : �
           let k = (w.within a u.on u.passes).0 in
           let n = (w.within b v.on v.passes).1 in
           w.passes p h (omega arith) (omega arith))
-      go (Price a) Nothing e f = let u = smallest.found a e in absurd (largest.nothing f a u.on u.passes)
-      go Nothing (Price b) e f = let v = largest.found b f in absurd (smallest.nothing e b v.on v.passes)
-      go Nothing Nothing e f =
+      go (Some a) None e f = let u = smallest.found a e in absurd (largest.nothing f a u.on u.passes)
+      go None (Some b) e f = let v = largest.found b f in absurd (smallest.nothing e b v.on v.passes)
+      go None None e f =
           same (test p) (leb 0 p && leb p 0)
           (λ m. absurd (smallest.nothing e p h m))
           (λ m. let n : p ≤ 0 = leb→le p 0 (and_right (leb 0 p) (leb p 0) m) in absurd (omega (arith, pos)))

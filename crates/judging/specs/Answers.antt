@@ -1,17 +1,13 @@
 -- The answer to a question: number, lowest and highest. Document 01, "Question and answer" and "Why a question comes back".
-use Rattle.std.specs.Prelude.{ℕ}
+use Rattle.std.specs.Prelude.{ℕ, List, ◌++◌, codes, decimal, Option, Some, None, Ok, Err}
 use Rattle.ladder.specs.Ladder.{Prices}
 use Rattle.limits.specs.declared.Percentage.{Percentage}
 use Rattle.questions.specs.declared.Question.{Question}
-use Rattle.questions.specs.declared.Decoded.{Decoded}
-use Rattle.questions.specs.declared.Decoded.TheVariants.{Asked, WrongLength}
 use Rattle.little_endian.specs.Numbers.{Bytes}
 use Rattle.questions.specs.Record.{decoded}
 use Rattle.ranges.specs.declared.Range.{Range}
 use Rattle.ranges.specs.declared.Refusal.{Refusal}
-use Rattle.ranges.specs.declared.Reading.{Reading}
-use Rattle.ranges.specs.declared.Reading.TheVariants.{Permitted, Refused}
-use Rattle.ranges.specs.Readings.{reading_of}
+use Rattle.ranges.specs.Readings.{Reading, reading_of}
 use Rattle.judging.specs.declared.Answer.{Answer}
 use Rattle.judging.specs.declared.Shown.{Shown}
 use Rattle.judging.specs.Shown.{shown_of}
@@ -34,17 +30,21 @@ answer_on l range p = answer_with (verdict_number (verdict_of l range p)) (shown
 
 -- the answer to a price, by the reading of its question
 abbrev pub answer_by : Prices → Reading → ℕ → Answer
-answer_by l (Permitted range) p = answer_on l range p
-answer_by l (Refused refusal) p = refused_answer refusal
+answer_by l (Ok range) p = answer_on l range p
+answer_by l (Err refusal) p = refused_answer refusal
 
 -- the answer to a question: by its reading, and its order price
 abbrev pub answer_to : Prices → Percentage → Question → Answer
 answer_to l percent q = answer_by l (reading_of l percent q.codes q.references) q.price
 
 -- the answer to a question as bytes. Document 01 leaves open what a single question of another length gets: 1, with 0 and 0
-abbrev pub answer_decoded : Prices → Percentage → Decoded → Answer
-answer_decoded l percent (Asked q) = answer_to l percent q
-answer_decoded l percent WrongLength = none_shown wrong_length
+abbrev pub answer_decoded : Prices → Percentage → Option Question → Answer
+answer_decoded l percent (Some q) = answer_to l percent q
+answer_decoded l percent None = none_shown wrong_length
 
 unfoldable pub judged : Prices → Percentage → Bytes → Answer
 judged l percent s = answer_decoded l percent (decoded s)
+
+-- an answer in print: its numbers in decimal, with single blanks
+abbrev pub answer_text : Answer → List ℕ
+answer_text a = decimal a.number ++ codes " " ++ decimal a.lowest ++ codes " " ++ decimal a.highest

@@ -1,8 +1,6 @@
 -- The bounds of a range cut by the nine-fold rule, as the code computes them: fold times p is more than n from n / fold + 1 on, and p is
 -- less than fold times n up to fold n - 1; and the range between them. Answers are stated by shown_of, never by these.
-use Rattle.std.specs.Prelude.{ℕ, ◌+◌, ◌-◌, ◌*◌, ◌/◌, min, max, cond, ltb}
-use Rattle.ladder.specs.declared.Found.{Found}
-use Rattle.ladder.specs.declared.Found.TheVariants as found
+use Rattle.std.specs.Prelude.{ℕ, ◌+◌, ◌-◌, ◌*◌, ◌/◌, min, max, cond, ltb, Option, Some, None}
 use Rattle.questions.specs.declared.Reference.{Reference}
 use Rattle.questions.specs.declared.Reference.TheVariants.{Missing, Price}
 use Rattle.judging.specs.declared.Shown.{Shown}
@@ -20,7 +18,7 @@ cut_highest highest (Price n) = min highest (fold * n - 1)
 abbrev pub none_between : Shown
 none_between = record { lowest = 0; highest = 0 }
 
-abbrev pub shown_between : Found → Found → Shown
-shown_between found.Nothing to = none_between
-shown_between (found.Price a) found.Nothing = none_between
-shown_between (found.Price a) (found.Price b) = cond (ltb b a) none_between (record { lowest = a; highest = b })
+abbrev pub shown_between : Option ℕ → Option ℕ → Shown
+shown_between None to = none_between
+shown_between (Some a) None = none_between
+shown_between (Some a) (Some b) = cond (ltb b a) none_between (record { lowest = a; highest = b })

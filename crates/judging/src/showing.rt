@@ -1,13 +1,12 @@
 // The nine-fold rule, and the shown range: both bounds cut by the rule, and what is off the ladder rounded to it.
-ghost use Rattle.std.specs.Prelude.{◌≡◌, ◌+◌, ◌-◌, ◌*◌, ◌/◌, min, T};
-ghost use Rattle.ladder.specs.Layout.{is_table, prices_of};
-ghost use Rattle.facts.specs.Lists.{holds};
-ghost use Rattle.ladder.specs.Search.{first, latest, at_least, at_most};
+ghost use Rattle.std.specs.Prelude.{◌≡◌, ◌-◌, ◌*◌, min};
+ghost use Rattle.ladder.specs.Layout.{prices_of};
 ghost use Rattle.judging.specs.Shown.{fold, passes, shown_of};
 ghost use Rattle.judging.specs.Cutting.{cut_lowest, cut_highest, shown_between};
 
 use super::Shown;
-use ladder::{Found, numbers, rounding};
+use ladder::numbers::product;
+use ladder::table::SpreadTable;
 use questions::Reference;
 use ranges::Range;
 
@@ -27,19 +26,18 @@ pub fn does_pass(nine_fold: Reference, price: u32) -> bool
     match nine_fold {
         Reference::Missing => true,
         Reference::Price(n) => {
-            ((price as u64) < numbers::product(FOLD, n))
-                & ((n as u64) < numbers::product(FOLD, price))
+            (u64::from(price) < product(FOLD, n)) & (u64::from(n) < product(FOLD, price))
         }
     }
 }
 
 // The lowest price of a range, raised to the first number that the nine-fold rule lets pass.
-fn cut_lowest(lowest: u32, nine_fold: Reference) -> u32
+pub(crate) fn cut_lowest(lowest: u32, nine_fold: Reference) -> u32
     ensures { result ≡ cut_lowest lowest nine_fold }
 {
     match nine_fold {
         Reference::Missing => lowest,
-        Reference::Price(n) => numbers::larger(lowest, n / FOLD + 1),
+        Reference::Price(n) => lowest.max(n / FOLD + 1),
     }
 }
 
@@ -47,15 +45,12 @@ fn cut_lowest(lowest: u32, nine_fold: Reference) -> u32
 fn below_fold(highest: u32, n: u32) -> u32
     ensures { result ≡ min highest (fold * n - 1) }
 {
-    let bound = numbers::product(FOLD, n);
-    if (highest as u64) < bound {
-        return highest;
-    }
-    if bound == 0 { 0 } else { (bound - 1) as u32 }
+    let last = product(FOLD, n).saturating_sub(1);
+    u64::from(highest).min(last) as u32
 }
 
 // The highest price of a range, lowered to the last number that the nine-fold rule lets pass.
-fn cut_highest(highest: u32, nine_fold: Reference) -> u32
+pub(crate) fn cut_highest(highest: u32, nine_fold: Reference) -> u32
     ensures { result ≡ cut_highest highest nine_fold }
 {
     match nine_fold {
@@ -65,73 +60,24 @@ fn cut_highest(highest: u32, nine_fold: Reference) -> u32
 }
 
 // The range from one ladder price to another, or 0 and 0 where one of them was not found, or they do not rise.
-fn shown_between(from: Found, to: Found) -> Shown
+pub(crate) fn shown_between(from: Option<u32>, to: Option<u32>) -> Shown
     ensures { result ≡ shown_between from to }
 {
-    let Found::Price(lowest) = from else {
-        return NONE;
-    };
-    let Found::Price(highest) = to else {
-        return NONE;
-    };
-    if highest < lowest {
-        return NONE;
+    match (from, to) {
+        (Some(lowest), Some(highest)) if lowest <= highest => Shown { lowest, highest },
+        _ => NONE,
     }
-    Shown { lowest, highest }
 }
 
 // The range that is shown, of any range: its bounds are cut, and then rounded to the ladder.
-pub fn shown_of(table: &[u32], range: Range) -> Shown
-    requires { T (is_table table.now) }
+pub fn shown_of(table: &SpreadTable, range: Range) -> Shown
     ensures { result ≡ shown_of (prices_of table.now) range }
 {
     let nine_fold = range.nine_fold;
     let from = cut_lowest(range.lowest, nine_fold);
     let to = cut_highest(range.highest, nine_fold);
     shown_between(
-        rounding::at_least(table, 1, from as u64),
-        rounding::at_most(table, 1, to as u64),
-    )
-}
-
-// The first price that is shown, from a ladder price on: that price, unless the nine-fold rule cuts it.
-fn first_shown(table: &[u32], lowest: u32, nine_fold: Reference) -> Found
-    requires well_formed { T (is_table table.now) }
-    requires on_ladder { T (holds lowest (prices_of table.now)) }
-    ensures { result ≡ first (at_least 1 (cut_lowest lowest nine_fold)) (prices_of table.now) }
-{
-    let from = cut_lowest(lowest, nine_fold);
-    let is_kept = from == lowest;
-    if is_kept {
-        return Found::Price(lowest);
-    }
-    rounding::at_least(table, 1, from as u64)
-}
-
-// The last price that is shown, up to a ladder price: that price, unless the nine-fold rule cuts it.
-fn last_shown(table: &[u32], highest: u32, nine_fold: Reference) -> Found
-    requires well_formed { T (is_table table.now) }
-    requires on_ladder { T (holds highest (prices_of table.now)) }
-    ensures { result ≡ latest (at_most 1 (cut_highest highest nine_fold)) (prices_of table.now) }
-{
-    let to = cut_highest(highest, nine_fold);
-    let is_kept = to == highest;
-    if is_kept {
-        return Found::Price(highest);
-    }
-    rounding::at_most(table, 1, to as u64)
-}
-
-// The same of a range whose bounds are ladder prices: only a bound that is cut need be rounded.
-pub(crate) fn shown_of_permitted(table: &[u32], range: Range) -> Shown
-    requires well_formed { T (is_table table.now) }
-    requires lowest { T (holds range.lowest (prices_of table.now)) }
-    requires highest { T (holds range.highest (prices_of table.now)) }
-    ensures { result ≡ shown_of (prices_of table.now) range }
-{
-    let nine_fold = range.nine_fold;
-    shown_between(
-        first_shown(table, range.lowest, nine_fold),
-        last_shown(table, range.highest, nine_fold),
+        table.at_least(1, u64::from(from)),
+        table.at_most(1, u64::from(to)),
     )
 }

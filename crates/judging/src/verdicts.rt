@@ -1,32 +1,30 @@
 // The verdict on a price against a permitted range: checks 6 to 10 in number order.
-ghost use Rattle.std.specs.Prelude.{◌≡◌, T};
-ghost use Rattle.ladder.specs.Layout.{is_table, prices_of};
+ghost use Rattle.std.specs.Prelude.{◌≡◌};
+ghost use Rattle.ladder.specs.Layout.{prices_of};
 ghost use Rattle.judging.specs.Verdicts.{outside, verdict_of};
 
 use super::{Verdict, showing};
-use ladder::{places, table};
+use ladder::table::SpreadTable;
 use ranges::Range;
 
 // Whether a price is under the first ladder price or over the last.
-pub fn is_outside(table: &[u32], price: u32) -> bool
-    requires { T (is_table table.now) }
+pub fn is_outside(table: &SpreadTable, price: u32) -> bool
     ensures { result ≡ outside (prices_of table.now) price }
 {
-    let first = table::first_price(table);
-    let last = table::last_price(table);
+    let first = table.first_price();
+    let last = table.last_price();
     (price < first) | (last < price)
 }
 
 // The verdict on a price.
 #[tactic(auto, unfolding(crate::specs::Verdicts::verdict_of))]
-pub fn verdict_on(table: &[u32], range: Range, price: u32) -> Verdict
-    requires { T (is_table table.now) }
+pub fn verdict_on(table: &SpreadTable, range: Range, price: u32) -> Verdict
     ensures { result ≡ verdict_of (prices_of table.now) range price }
 {
     if is_outside(table, price) {
         return Verdict::OutsideLadder;
     }
-    if !places::on_ladder(table, price) {
+    if !table.holds(price) {
         return Verdict::BetweenPrices;
     }
     if price < range.lowest {

@@ -1,4 +1,5 @@
 -- The laws of specs/Laws.antt, proved. Other crates see them as fields of ladder_laws, and nothing else of this folder.
+use Rattle.std.specs.Prelude.{Option, Some, None}
 use mathlib.Core.Path.{◌≡◌, refl, ap, sym, ◌∙◌}
 use Prim.Native.Nat.{ℕ, ◌+◌, ◌-◌, ◌≤◌}
 use native.Mathlib.Nat.{zero-add, le_refl, le_trans, le_of_lt}
@@ -8,11 +9,8 @@ use mathlib.Core.List.{List}
 use lib.Dec.{T, ltb→lt, lt→ltb}
 use lib.ListN.{length}
 use Rattle.facts.specs.Lists.{holds}
-use Rattle.facts.proofs.Tests.{zero_is_one, passed, true_of}
+use Rattle.facts.proofs.Tests.{passed, true_of}
 use Rattle.ladder.specs.declared.Band.{Band}
-use Rattle.ladder.specs.declared.Found.{Found}
-use Rattle.ladder.specs.declared.Found.TheVariants.{Price, Nothing}
-use Rattle.ladder.specs.declared.Place.TheVariants.{At}
 use Rattle.ladder.specs.Bands.{phase1, chained, well_formed}
 use Rattle.ladder.specs.Ladder.{rungs, band_prices, ladder, is_ladder_price}
 use Rattle.ladder.specs.Search.{first, latest_after, latest, above, below}
@@ -24,7 +22,7 @@ use Rattle.ladder.specs.Laws.{SpreadUpIsNext, SpreadDownIsPrevious, SpreadsStay,
 use Rattle.ladder.specs.Laws.{SpreadsKeepOrder, RoundingKeepsOrder, LadderLaws}
 use Rattle.ladder.proofs.Lists.Ends.{over_first, under_last, first_held, last_held}
 use Rattle.ladder.proofs.Lists.Entries.{at_place, past, entry_held, held_entry, place_of_entry, place_off, entry_of_place}
-use Rattle.ladder.proofs.Lists.Extremes.{Best, None, Result, result_is, result_none, least_one, greatest_one, first_result, latest_result}
+use Rattle.ladder.proofs.Lists.Extremes.{Best, NonePass, FoundIs, result_is, result_none, least_one, greatest_one, first_result, latest_result}
 use Rattle.ladder.proofs.Lists.Moves.{times_add}
 use Rattle.ladder.proofs.Lists.Going.{ups_entry, downs_entry}
 use Rattle.ladder.proofs.Lists.Order.{up_by, down_by, up_on, down_on, times_on, times_lead, spreads_up_order, spreads_down_order}
@@ -80,8 +78,8 @@ places_are_inverse t wf =
       above_the_last = past (ladder t);
     }
   where
-    place : (k p : ℕ) → price_at k (ladder t) ≡ Price p → place_of p (ladder t) ≡ At k
-    place k p e = place_of_entry (ladder t) (rises t wf) 0 k p e ∙ ap At (zero-add k)
+    place : (k p : ℕ) → price_at k (ladder t) ≡ Some p → place_of p (ladder t) ≡ Some k
+    place k p e = place_of_entry (ladder t) (rises t wf) 0 k p e ∙ ap Some (zero-add k)
 
 -- ---- searches
 
@@ -94,7 +92,7 @@ module _ (t : List Band) (wf : T (well_formed t)) (R : ℕ → ℕ → Type 0) (
   best_of q b = record { on = listed t wf q b.on; passes = b.passes; extreme = λ x h m. b.extreme x (priced t wf x h) m }
 
   -- what a search of the list finds, as a law about ladder prices
-  finds_of : (answer : Found) → ((x y : ℕ) → R x y → R y x → x ≡ y) → Result R test (ladder t) answer → Finds R t test answer
+  finds_of : (answer : Option ℕ) → ((x y : ℕ) → R x y → R y x → x ≡ y) → FoundIs R test (ladder t) answer → Finds R t test answer
   finds_of answer one result =
       record {
         found = λ q e. extreme_of q (rw e at result);
@@ -103,7 +101,7 @@ module _ (t : List Band) (wf : T (well_formed t)) (R : ℕ → ℕ → Type 0) (
         none = λ n. result_none R test (ladder t) answer result (λ x h m. n x (priced t wf x h) m);
       }
     where
-      none : Result R test (ladder t) Nothing → NonePasses t test
+      none : FoundIs R test (ladder t) None → NonePasses t test
       none n x h m = n x (listed t wf x h) m
 
 first_is_smallest : FirstIsSmallest
@@ -116,7 +114,7 @@ latest_is_largest t wf test = finds_of t wf Greatest test (latest test (ladder t
 
 -- a single spread, either way: it ends where `by` says, on the extreme price that passes, or stays at p
 module _ (t : List Band) (wf : T (well_formed t)) (R : ℕ → ℕ → Type 0) (test : ℕ → Bool) (p spread : ℕ)
-    (by : (P : ℕ → Type 0) → ((q : ℕ) → Best R test (ladder t) q → P q) → (None test (ladder t) → P p) → P spread) where
+    (by : (P : ℕ → Type 0) → ((q : ℕ) → Best R test (ladder t) q → P q) → (NonePass test (ladder t) → P p) → P spread) where
   moved : (x : ℕ) → T (is_ladder_price x t) → T (test x) → Extreme R t test spread
   moved x on m = by (Extreme R t test) (extreme_of t wf R test) (λ n. absurd (n x (listed t wf x on) m))
 
@@ -163,21 +161,21 @@ only_from_the_ladder p l number =
       nothing = λ e. nothing (holds p l) refl e;
     }
   where
-    price : (q : ℕ) (v : Bool) → holds p l ≡ v → cond v (Price number) Nothing ≡ Price q → (holds p l ≡ true) × (q ≡ number)
+    price : (q : ℕ) (v : Bool) → holds p l ≡ v → cond v (Some number) None ≡ Some q → (holds p l ≡ true) × (q ≡ number)
     price q true h i = (h, (cc))
-    price q false h i = let z : ◌≡◌ {A = ℕ} 0 1 = cc in absurd (zero_is_one z)
+    price q false h i = absurd (grind arith)
 
-    nothing : (v : Bool) → holds p l ≡ v → cond v (Price number) Nothing ≡ Nothing → holds p l ≡ false
-    nothing true h i = let z : ◌≡◌ {A = ℕ} 0 1 = cc in absurd (zero_is_one z)
+    nothing : (v : Bool) → holds p l ≡ v → cond v (Some number) None ≡ None → holds p l ≡ false
+    nothing true h i = absurd (grind arith)
     nothing false h i = h
 
 -- n steps and then m, for any step that stays on the list
 adds : (l : List ℕ) (step : ℕ → ℕ) → ((p : ℕ) → T (holds p l) → T (holds (step p) l)) → (n m p q : ℕ) →
-    if_held p l (times n step p) ≡ Price q → if_held q l (times m step q) ≡ if_held p l (times (n + m) step p)
+    if_held p l (times n step p) ≡ Some q → if_held q l (times m step q) ≡ if_held p l (times (n + m) step p)
 adds l step on n m p q e =
     let r = (only_from_the_ladder p l (times n step p)).price q e in
     let held_q : holds q l ≡ true = passed (holds q l) (rw r.1 (times_on l step on n p (true_of (holds p l) r.0))) in
-    rw (held_q, r.0) (ap Price (ap (times m step) r.1 ∙ sym (times_add step n m p)))
+    rw (held_q, r.0) (ap Some (ap (times m step) r.1 ∙ sym (times_add step n m p)))
 
 n_then_m : NThenM
 n_then_m t wf n m p q =

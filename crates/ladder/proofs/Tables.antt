@@ -1,5 +1,4 @@
 -- Well-formed tables: how bands make the ladder, and what band arithmetic finds on it.
-pub mod Numbers
 pub mod Chain
 pub mod Table
 pub mod Members

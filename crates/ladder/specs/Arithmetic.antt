@@ -1,9 +1,6 @@
 -- Band arithmetic: where a threshold lands, where a price stands, and one turn of a walk.
 -- Only functions inside this crate speak of these; what other crates may call is told by the other files.
-use Rattle.std.specs.Prelude.{◌≡◌, ℕ, zero, suc, ◌+◌, ◌-◌, ◌*◌, ◌/◌, ◌%◌, ◌≤◌, ◌<◌, cond, List, [], ◌∷◌, leb, ltb, length, get_or}
-use Rattle.ladder.specs.declared.Found.TheVariants.{Price}
-use Rattle.ladder.specs.declared.search.Standing.{Standing}
-use Rattle.ladder.specs.declared.search.Standing.TheVariants.{In, OffLadder}
+use Rattle.std.specs.Prelude.{◌≡◌, ℕ, zero, suc, ◌+◌, ◌-◌, ◌*◌, ◌/◌, ◌%◌, ◌≤◌, ◌<◌, cond, List, [], ◌∷◌, leb, ltb, length, get_or, Option, Some, None, position, count_by}
 use Rattle.ladder.specs.declared.turns.Turn.{Turn}
 use Rattle.ladder.specs.declared.turns.Turn.TheVariants.{Ends, Leaves}
 use Rattle.ladder.specs.declared.rounding.Gap.{Gap}
@@ -18,14 +15,17 @@ unfoldable pub bands_below : ℕ → ℕ → Table → ℕ
 bands_below scale y [] = 0
 bands_below scale y (b ∷ bs) = let rest = suc (bands_below scale y bs) in cond (ltb (scale * b.top) y) rest 0
 
+-- the index of the first band that does not end below y
+abbrev pub first_from : ℕ → ℕ → Table → Option ℕ
+first_from scale y t = position (λ b. leb y (scale * b.top)) t
+
 -- how many bands of a table end below y, all of them looked at
-unfoldable pub count_below : ℕ → ℕ → Table → ℕ
-count_below scale y [] = 0
-count_below scale y (b ∷ bs) = cond (ltb (scale * b.top) y) 1 0 + count_below scale y bs
+abbrev pub count_below : ℕ → ℕ → Table → ℕ
+count_below scale y t = count_by (λ b. ltb (scale * b.top) y) t
 
 -- the band of a ladder price
-abbrev pub standing_of : ℕ → Table → Standing
-standing_of p t = cond (holds p (ladder t)) (In (bands_below 1 p t)) OffLadder
+abbrev pub standing_of : ℕ → Table → Option ℕ
+standing_of p t = cond (holds p (ladder t)) (Some (bands_below 1 p t)) None
 
 -- p stands in band k of a table, or on its bottom
 pub record StandsIn (t : Table) (k p : ℕ) : Type 0 where
@@ -47,5 +47,5 @@ turn_of n spread room = cond (leb (n * spread) room) (Ends (n * spread)) (Leaves
 
 -- the ladder prices on either side of a threshold: the largest that, times scale, is below y, and the smallest that is not
 pub record Between (scale y : ℕ) (l : List ℕ) (gap : Gap) : Type 0 where
-  pub is_below : latest (at_most scale (y - 1)) l ≡ Price gap.below
-  pub is_above : first (at_least scale y) l ≡ Price gap.above
+  pub is_below : latest (at_most scale (y - 1)) l ≡ Some gap.below
+  pub is_above : first (at_least scale y) l ≡ Some gap.above

@@ -1,11 +1,8 @@
 -- The laws of the ladder, over any well-formed table, in the order in which a reader meets the notions: table, list, places, searches, spreads,
 -- order. Each is a field of the record LadderLaws at the end, which proofs/Laws.antt proves as ladder_laws: TheLadder is the field the_ladder.
 -- That band arithmetic ends where the plain count ends is not a law in this list: it is what the contracts of the calls say.
-use Rattle.std.specs.Prelude.{◌≡◌, ℕ, ◌+◌, ◌-◌, min, ◌≤◌, ◌<◌, Bool, true, false, T, length, get_or}
+use Rattle.std.specs.Prelude.{◌≡◌, ℕ, ◌+◌, ◌-◌, min, ◌≤◌, ◌<◌, Bool, true, false, T, length, get_or, Option, Some, None}
 use Rattle.facts.specs.Lists.{holds, Rising}
-use Rattle.ladder.specs.declared.Found.{Found}
-use Rattle.ladder.specs.declared.Found.TheVariants.{Price, Nothing}
-use Rattle.ladder.specs.declared.Place.TheVariants.{At, OffLadder}
 use Rattle.ladder.specs.Bands.{Table, no_band, phase1, well_formed}
 use Rattle.ladder.specs.Ladder.{Prices, ladder, is_ladder_price}
 use Rattle.ladder.specs.Search.{first, latest, or_else, above, below, at_least, at_most}
@@ -18,9 +15,9 @@ use Rattle.ladder.specs.Spreads.{spread_up, spread_down, times, if_held, spreads
 pub record ThePhase1Table : Type 0 where
   pub well_formed_lem : T (well_formed phase1)
   pub prices : length (ladder phase1) ≡ 11740
-  pub first_place : price_at 0 (ladder phase1) ≡ Price 10
-  pub last_place : price_at 11739 (ladder phase1) ≡ Price 9995000
-  pub no_more : price_at 11740 (ladder phase1) ≡ Nothing
+  pub first_place : price_at 0 (ladder phase1) ≡ Some 10
+  pub last_place : price_at 11739 (ladder phase1) ≡ Some 9995000
+  pub no_more : price_at 11740 (ladder phase1) ≡ None
   pub first_price_lem : first_price (ladder phase1) ≡ 10
   pub last_price_lem : last_price (ladder phase1) ≡ 9995000
 
@@ -55,12 +52,12 @@ NeverZero = (t : Table) → T (well_formed t) → (p : ℕ) → T (is_ladder_pri
 -- Place of price and price of place are inverse, both ways and without loss: each ladder price has a place, and each place a price;
 -- a price off the ladder has no place, and a place above the last no price.
 pub record Inverse (t : Table) : Type 0 where
-  pub place_of_price : (k p : ℕ) → price_at k (ladder t) ≡ Price p → place_of p (ladder t) ≡ At k
-  pub price_of_place : (k p : ℕ) → place_of p (ladder t) ≡ At k → price_at k (ladder t) ≡ Price p
-  pub price_has_place : (p : ℕ) → T (is_ladder_price p t) → (k : ℕ) × (place_of p (ladder t) ≡ At k)
-  pub place_has_price : (k : ℕ) → k < length (ladder t) → (p : ℕ) × (price_at k (ladder t) ≡ Price p)
-  pub off_the_ladder : (p : ℕ) → (T (is_ladder_price p t) → ⊥) → place_of p (ladder t) ≡ OffLadder
-  pub above_the_last : (k : ℕ) → length (ladder t) ≤ k → price_at k (ladder t) ≡ Nothing
+  pub place_of_price : (k p : ℕ) → price_at k (ladder t) ≡ Some p → place_of p (ladder t) ≡ Some k
+  pub price_of_place : (k p : ℕ) → place_of p (ladder t) ≡ Some k → price_at k (ladder t) ≡ Some p
+  pub price_has_place : (p : ℕ) → T (is_ladder_price p t) → (k : ℕ) × (place_of p (ladder t) ≡ Some k)
+  pub place_has_price : (k : ℕ) → k < length (ladder t) → (p : ℕ) × (price_at k (ladder t) ≡ Some p)
+  pub off_the_ladder : (p : ℕ) → (T (is_ladder_price p t) → ⊥) → place_of p (ladder t) ≡ None
+  pub above_the_last : (k : ℕ) → length (ladder t) ≤ k → price_at k (ladder t) ≡ None
 
 abbrev pub PlacesAreInverse : Type 0
 PlacesAreInverse = (t : Table) → T (well_formed t) → Inverse t
@@ -83,11 +80,11 @@ abbrev pub NonePasses : Table → (ℕ → Bool) → Type 0
 NonePasses t test = (x : ℕ) → T (is_ladder_price x t) → T (test x) → ⊥
 
 -- a search answers the extreme price, exactly where a ladder price passes, and nothing, exactly where none does
-pub record Finds (R : ℕ → ℕ → Type 0) (t : Table) (test : ℕ → Bool) (answer : Found) : Type 0 where
-  pub found : (q : ℕ) → answer ≡ Price q → Extreme R t test q
-  pub finds : (q : ℕ) → Extreme R t test q → answer ≡ Price q
-  pub nothing : answer ≡ Nothing → NonePasses t test
-  pub none : NonePasses t test → answer ≡ Nothing
+pub record Finds (R : ℕ → ℕ → Type 0) (t : Table) (test : ℕ → Bool) (answer : Option ℕ) : Type 0 where
+  pub found : (q : ℕ) → answer ≡ Some q → Extreme R t test q
+  pub finds : (q : ℕ) → Extreme R t test q → answer ≡ Some q
+  pub nothing : answer ≡ None → NonePasses t test
+  pub none : NonePasses t test → answer ≡ None
 
 -- The first price in the list that passes a test is the smallest ladder price that passes it, the latest is the largest: whatever the test.
 abbrev pub FirstIsSmallest : Type 0
@@ -126,17 +123,17 @@ SpreadsStay = (t : Table) → T (well_formed t) → (n p : ℕ) → T (is_ladder
 
 -- What is asked from a price p is answered from a price on the list, by the number due, and from no other.
 pub record Answers (p : ℕ) (l : Prices) (number : ℕ) : Type 0 where
-  pub held : T (holds p l) → if_held p l number ≡ Price number
-  pub price : (q : ℕ) → if_held p l number ≡ Price q → (holds p l ≡ true) × (q ≡ number)
-  pub nothing : if_held p l number ≡ Nothing → holds p l ≡ false
+  pub held : T (holds p l) → if_held p l number ≡ Some number
+  pub price : (q : ℕ) → if_held p l number ≡ Some q → (holds p l ≡ true) × (q ≡ number)
+  pub nothing : if_held p l number ≡ None → holds p l ≡ false
 
 abbrev pub OnlyFromTheLadder : Type 0
 OnlyFromTheLadder = (p : ℕ) (l : Prices) (number : ℕ) → Answers p l number
 
 -- n spreads, and then m from where they end, are n + m spreads: up, and down.
 pub record Adds (t : Table) (n m p q : ℕ) : Type 0 where
-  pub up : spreads_up (ladder t) p n ≡ Price q → spreads_up (ladder t) q m ≡ spreads_up (ladder t) p (n + m)
-  pub down : spreads_down (ladder t) p n ≡ Price q → spreads_down (ladder t) q m ≡ spreads_down (ladder t) p (n + m)
+  pub up : spreads_up (ladder t) p n ≡ Some q → spreads_up (ladder t) q m ≡ spreads_up (ladder t) p (n + m)
+  pub down : spreads_down (ladder t) p n ≡ Some q → spreads_down (ladder t) q m ≡ spreads_down (ladder t) p (n + m)
 
 abbrev pub NThenM : Type 0
 NThenM = (t : Table) → T (well_formed t) → (n m p q : ℕ) → Adds t n m p q
@@ -147,12 +144,12 @@ pub record ByPlaces (t : Table) (k p n : ℕ) : Type 0 where
   pub down : spreads_down (ladder t) p n ≡ price_at (k - n) (ladder t)
 
 abbrev pub GoingByPlaces : Type 0
-GoingByPlaces = (t : Table) → T (well_formed t) → (k p n : ℕ) → place_of p (ladder t) ≡ At k → ByPlaces t k p n
+GoingByPlaces = (t : Table) → T (well_formed t) → (k p n : ℕ) → place_of p (ladder t) ≡ Some k → ByPlaces t k p n
 
 -- Up and then down need not return: a spread up from 9,995.000 halts there, and a spread down from there is 9,990.000.
 pub record UpThenDown : Type 0 where
-  pub up : spreads_up (ladder phase1) 9995000 1 ≡ Price 9995000
-  pub then_down : spreads_down (ladder phase1) 9995000 1 ≡ Price 9990000
+  pub up : spreads_up (ladder phase1) 9995000 1 ≡ Some 9995000
+  pub then_down : spreads_down (ladder phase1) 9995000 1 ≡ Some 9990000
 
 -- ---- order
 

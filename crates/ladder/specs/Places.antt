@@ -1,23 +1,19 @@
 -- Places: the first price of a ladder has place 0, the next 1, and so on; and the ends of a ladder. Document 01, "The ladder".
-use Rattle.std.specs.Prelude.{ℕ, zero, suc, cond, List, [], ◌∷◌, eqb}
-use Rattle.ladder.specs.declared.Found.{Found}
-use Rattle.ladder.specs.declared.Found.TheVariants.{Price, Nothing}
-use Rattle.ladder.specs.declared.Place.{Place}
-use Rattle.ladder.specs.declared.Place.TheVariants.{At, OffLadder}
+use Rattle.std.specs.Prelude.{ℕ, zero, suc, cond, List, [], ◌∷◌, eqb, Option, Some, None}
 
 -- the price at a place; nothing above the last place
-unfoldable pub price_at : ℕ → List ℕ → Found
-price_at k [] = Nothing
-price_at zero (q ∷ qs) = Price q
+unfoldable pub price_at : ℕ → List ℕ → Option ℕ
+price_at k [] = None
+price_at zero (q ∷ qs) = Some q
 price_at (suc k) (q ∷ qs) = price_at k qs
 
 -- the place of p in a list that begins at place k
-unfoldable pub place_from : ℕ → ℕ → List ℕ → Place
-place_from k p [] = OffLadder
-place_from k p (q ∷ qs) = let rest = place_from (suc k) p qs in cond (eqb p q) (At k) rest
+unfoldable pub place_from : ℕ → ℕ → List ℕ → Option ℕ
+place_from k p [] = None
+place_from k p (q ∷ qs) = let rest = place_from (suc k) p qs in cond (eqb p q) (Some k) rest
 
 -- the place of a price
-abbrev pub place_of : ℕ → List ℕ → Place
+abbrev pub place_of : ℕ → List ℕ → Option ℕ
 place_of p l = place_from 0 p l
 
 -- the first price of a ladder

@@ -1,26 +1,23 @@
 -- Going through every price of a ladder, from the first to the last: the plain count of document 01, "The two limits of a reference R".
-use Rattle.std.specs.Prelude.{ℕ, ◌*◌, Bool, cond, List, [], ◌∷◌, ltb, leb}
-use Rattle.ladder.specs.declared.Found.{Found}
-use Rattle.ladder.specs.declared.Found.TheVariants.{Price, Nothing}
+use Rattle.std.specs.Prelude.{ℕ, ◌*◌, Bool, cond, List, [], ◌∷◌, ltb, leb, Option, Some, None, unwrap_or}
 
 -- the first price that passes a test
-unfoldable pub first : (ℕ → Bool) → List ℕ → Found
-first test [] = Nothing
-first test (q ∷ qs) = let rest = first test qs in cond (test q) (Price q) rest
+unfoldable pub first : (ℕ → Bool) → List ℕ → Option ℕ
+first test [] = None
+first test (q ∷ qs) = let rest = first test qs in cond (test q) (Some q) rest
 
 -- the latest price that passes a test, or what was kept before
-unfoldable pub latest_after : Found → (ℕ → Bool) → List ℕ → Found
+unfoldable pub latest_after : Option ℕ → (ℕ → Bool) → List ℕ → Option ℕ
 latest_after kept test [] = kept
-latest_after kept test (q ∷ qs) = latest_after (cond (test q) (Price q) kept) test qs
+latest_after kept test (q ∷ qs) = latest_after (cond (test q) (Some q) kept) test qs
 
 -- the latest price that passes a test
-abbrev pub latest : (ℕ → Bool) → List ℕ → Found
-latest test l = latest_after Nothing test l
+abbrev pub latest : (ℕ → Bool) → List ℕ → Option ℕ
+latest test l = latest_after None test l
 
 -- the price found, or another number where nothing was
-abbrev pub or_else : ℕ → Found → ℕ
-or_else other (Price q) = q
-or_else other Nothing = other
+abbrev pub or_else : ℕ → Option ℕ → ℕ
+or_else other found = unwrap_or found other
 
 -- the tests: q is above p, and below p; scale times q is at least y, and at most y
 abbrev pub above : ℕ → ℕ → Bool

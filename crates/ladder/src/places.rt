@@ -1,77 +1,59 @@
 // Place to price and price to place, counted band by band.
-ghost use Rattle.std.specs.Prelude.{◌≡◌, ◌<◌, T, length};
+ghost use Rattle.std.specs.Prelude.{◌≡◌, ◌<◌, length};
 ghost use Rattle.facts.specs.Lists.{holds};
-ghost use Rattle.ladder.specs.Layout.{bands_of, is_table, prices_of};
+ghost use Rattle.ladder.specs.Layout.{prices_of};
 ghost use Rattle.ladder.specs.Places.{price_at, place_of};
 ghost use Rattle.ladder.specs.Arithmetic.{places_below};
 
-use super::search::Standing;
-use super::turns::Turn;
-use super::{Found, Place, bands, search, turns};
+use super::table::SpreadTable;
+use super::turns::{Turn, turn_in};
 
-// Whether a price is on the ladder.
-pub fn on_ladder(table: &[u32], price: u32) -> bool
-    requires { T (is_table table.now) }
-    ensures { result ≡ holds price (prices_of table.now) }
-{
-    let standing = search::standing_of(table, price);
-    let Standing::In(_index) = standing else {
-        return false;
-    };
-    true
-}
+impl SpreadTable<'_> {
+    // Whether a price is on the ladder.
+    pub fn holds(&self, price: u32) -> bool
+        ensures { result ≡ holds price (prices_of self.now) }
+    {
+        self.standing_of(price).is_some()
+    }
 
-// The price at a place, or nothing above the last place.
-pub fn price_at(table: &[u32], place: u32) -> Found
-    requires { T (is_table table.now) }
-    ensures { result ≡ price_at place (prices_of table.now) }
-{
-    let last = bands::count(table) - 1;
-    let mut k = 0;
-    let mut left = place as u64;
-    loop {
-        let band = bands::band_at(table, k);
-        let turn = turns::turn_in(left, band.spread, band.top - band.bottom);
-        match turn {
-            Turn::Ends(mils) => {
-                return Found::Price(band.bottom + mils);
-            }
-            Turn::Leaves(rest) => {
-                left = rest;
+    // The price at a place; none above the last place.
+    pub fn price_at(&self, place: u32) -> Option<u32>
+        ensures { result ≡ price_at place (prices_of self.now) }
+    {
+        let mut left = u64::from(place);
+        for band in self.bands {
+            let turn = turn_in(left, band.spread, band.top - band.bottom);
+            match turn {
+                Turn::Ends(mils) => {
+                    return Some(band.bottom + mils);
+                }
+                Turn::Leaves(rest) => {
+                    left = rest;
+                }
             }
         }
-        if k == last {
-            return Found::Nothing;
+        None
+    }
+
+    // How many places lie below the band with this index.
+    fn places_below(&self, index: usize) -> u32
+        requires { index < length self.now.bands.now }
+        ensures { result ≡ places_below index self.now.bands.now }
+    {
+        let mut places: u32 = 0;
+        for band in &self.bands[..index] {
+            let spreads = (band.top - band.bottom) / band.spread;
+            places += spreads;
         }
-        k += 1;
+        places
     }
-}
 
-// How many places lie below the band with this index.
-fn places_below(table: &[u32], index: usize) -> u32
-    requires well_formed { T (is_table table.now) }
-    requires index { index < length (bands_of table.now) }
-    ensures { result ≡ places_below index (bands_of table.now) }
-{
-    let mut places: u32 = 0;
-    let mut k = 0;
-    while k < index {
-        let spreads = bands::width_of(bands::band_at(table, k));
-        places += spreads;
-        k += 1;
+    // The place of a price; none for a price off the ladder.
+    pub fn place_of(&self, price: u32) -> Option<u32>
+        ensures { result ≡ place_of price (prices_of self.now) }
+    {
+        let index = self.standing_of(price)?;
+        let band = self.band_at(index);
+        Some(self.places_below(index) + (price - band.bottom) / band.spread)
     }
-    places
-}
-
-// The place of a price; `OffLadder` for a price off the ladder.
-pub fn place_of(table: &[u32], price: u32) -> Place
-    requires { T (is_table table.now) }
-    ensures { result ≡ place_of price (prices_of table.now) }
-{
-    let standing = search::standing_of(table, price);
-    let Standing::In(index) = standing else {
-        return Place::OffLadder;
-    };
-    let band = bands::band_at(table, index);
-    Place::At(places_below(table, index) + (price - band.bottom) / band.spread)
 }

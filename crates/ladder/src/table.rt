@@ -1,10 +1,15 @@
-// The Phase 1 table, and the ends of a table's ladder.
+// Spread tables, and that of Phase 1.
 ghost use Rattle.std.specs.Prelude.{◌≡◌, T};
-ghost use Rattle.ladder.specs.Bands.{phase1};
-ghost use Rattle.ladder.specs.Layout.{bands_of, is_table, prices_of};
-ghost use Rattle.ladder.specs.Places.{first_price, last_price};
+ghost use Rattle.ladder.specs.Bands.{phase1, well_formed};
 
-use super::{Band, bands};
+use super::Band;
+
+// The bands of a table, lent. It is well formed: whoever makes one shows it.
+#[derive(Clone, Copy)]
+pub struct SpreadTable<'a> {
+    pub bands: &'a [Band],
+    pub ghost is_well_formed: { T (well_formed bands.now) },
+}
 
 // The Phase 1 spread table, in mils.
 const PHASE_1: [Band; 12] = [
@@ -70,40 +75,10 @@ const PHASE_1: [Band; 12] = [
     },
 ];
 
-// The Phase 1 table laid out as plain numbers, for the calls that are lent a table.
-pub fn phase_1() -> [u32; 36]
-    ensures bands { bands_of result ≡ phase1 }
-    ensures well_formed { T (is_table result) }
+// The Phase 1 table.
+#[tactic(auto, unfolding(crate::specs::Bands::phase1, crate::specs::Bands::well_formed, crate::specs::Bands::chained))]
+pub fn phase_1() -> SpreadTable<'static>
+    ensures { result.bands.now ≡ phase1 }
 {
-    let bands = PHASE_1;
-    let mut numbers = [0u32; 36];
-    let mut k = 0;
-    while k < 12 {
-        let band = bands[k];
-        let at = 3 * k;
-        numbers[at] = band.bottom;
-        numbers[at + 1] = band.top;
-        numbers[at + 2] = band.spread;
-        k += 1;
-    }
-    numbers
-}
-
-// The first price of the ladder.
-pub fn first_price(table: &[u32]) -> u32
-    requires { T (is_table table.now) }
-    ensures { result ≡ first_price (prices_of table.now) }
-{
-    let band = bands::band_at(table, 0);
-    band.bottom
-}
-
-// The last price of the ladder.
-pub fn last_price(table: &[u32]) -> u32
-    requires { T (is_table table.now) }
-    ensures { result ≡ last_price (prices_of table.now) }
-{
-    let last = bands::count(table) - 1;
-    let band = bands::band_at(table, last);
-    band.top
+    SpreadTable { bands: &PHASE_1 }
 }

@@ -2,7 +2,7 @@
 ghost use Rattle.std.specs.Prelude.{◌≡◌, ◌<◌};
 ghost use Rattle.ladder.specs.Arithmetic.{turn_of};
 
-// What a walk does in a band.
+// What a walk does in a band. Neither case is a failure of the other, so it is no Option and no Result.
 #[derive(Clone, Copy)]
 pub(crate) enum Turn {
     // It ends in the band, so many mils on.
@@ -16,11 +16,8 @@ pub(crate) fn turn_in(left: u64, spread: u32, room: u32) -> Turn
     requires { 0 < spread }
     ensures { result ≡ turn_of left spread room }
 {
-    if left <= room as u64 {
-        let mils = left * (spread as u64);
-        if mils <= room as u64 {
-            return Turn::Ends(mils as u32);
-        }
+    match left.checked_mul(u64::from(spread)) {
+        Some(mils) if mils <= u64::from(room) => Turn::Ends(mils as u32),
+        _ => Turn::Leaves(left - u64::from(room / spread)),
     }
-    Turn::Leaves(left - (room / spread) as u64)
 }

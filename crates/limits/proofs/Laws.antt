@@ -1,12 +1,11 @@
 -- The laws of specs/Laws.antt, proved from the laws of the ladder. Other crates see them as fields of limit_laws.
+use Rattle.std.specs.Prelude.{Option, Some, None}
 use mathlib.Core.Path.{◌≡◌, refl}
 use Prim.Native.Nat.{ℕ, ◌*◌, ◌≤◌}
 use native.Mathlib.Nat.{mul-le-mul_left, mul-le-mul_right}
 use native.Mathlib.Omega.{arith}
 use lib.Dec.{T, le→leb}
 use Rattle.facts.proofs.Numbers.{of_smaller, of_larger}
-use Rattle.ladder.specs.declared.Found.{Found}
-use Rattle.ladder.specs.declared.Found.TheVariants.{Price, Nothing}
 use Rattle.ladder.specs.Bands.{Table, phase1}
 use Rattle.ladder.specs.Ladder.{ladder, is_ladder_price}
 use Rattle.ladder.specs.Search.{first, latest, or_else, at_least, at_most}
@@ -16,9 +15,9 @@ use Rattle.limits.specs.Limits.{limit_spreads, five_percent, lower_limit, upper_
 use Rattle.limits.specs.Laws.{PercentageFinds, LimitsEnclose, LimitsAreOrdered, NoSmaller, HigherReference, LimitLaws}
 
 -- a search that cannot find nothing finds a price
-finds : (f : Found) → (f ≡ Nothing → ⊥) → (q : ℕ) × (f ≡ Price q)
-finds (Price q) never = (q, refl)
-finds Nothing never = absurd (never refl)
+finds : (f : Option ℕ) → (f ≡ None → ⊥) → (q : ℕ) × (f ≡ Some q)
+finds (Some q) never = (q, refl)
+finds None never = absurd (never refl)
 
 percentage_finds : PercentageFinds
 percentage_finds t wf percent r on =
@@ -46,10 +45,10 @@ limits_are_ordered t wf percent p q h k m =
 -- ---- where a limit lies
 
 -- a rounded price is on the ladder: what was found, or the end that stands in
-rounded_on : (t : Table) (f : Found) (end : ℕ) → T (is_ladder_price end t) → ((q : ℕ) → f ≡ Price q → T (is_ladder_price q t)) →
+rounded_on : (t : Table) (f : Option ℕ) (end : ℕ) → T (is_ladder_price end t) → ((q : ℕ) → f ≡ Some q → T (is_ladder_price q t)) →
     T (is_ladder_price (or_else end f) t)
-rounded_on t (Price q) end on found = found q refl
-rounded_on t Nothing end on found = on
+rounded_on t (Some q) end on found = found q refl
+rounded_on t None end on found = on
 
 limits_enclose : LimitsEnclose
 limits_enclose t wf percent r on =
@@ -72,7 +71,7 @@ no_smaller : (limit : ℕ → ℕ) (p q : ℕ) → T (is_ladder_price p phase1) 
 no_smaller limit p q h k m =
     record { of_p = limit p; of_q = limit q; p_has = has p h; q_has = has q k; ordered = m }
   where
-    has : (r : ℕ) → T (is_ladder_price r phase1) → if_held r (ladder phase1) (limit r) ≡ Price (limit r)
+    has : (r : ℕ) → T (is_ladder_price r phase1) → if_held r (ladder phase1) (limit r) ≡ Some (limit r)
     has r on =
         (ladder_laws.only_from_the_ladder r (ladder phase1) (limit r)).held
         (rw (ladder_laws.the_ladder phase1 ladder_laws.the_phase1_table.well_formed_lem r) on)

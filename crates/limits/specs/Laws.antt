@@ -1,8 +1,6 @@
 -- The laws of the limits. Each is a field of the record LimitLaws at the end, which proofs/Laws.antt proves as limit_laws: LimitsAreOrdered is
 -- the field limits_are_ordered.
-use Rattle.std.specs.Prelude.{◌≡◌, ℕ, ◌*◌, ◌≤◌, T}
-use Rattle.ladder.specs.declared.Found.{Found}
-use Rattle.ladder.specs.declared.Found.TheVariants.{Price}
+use Rattle.std.specs.Prelude.{◌≡◌, ℕ, ◌*◌, ◌≤◌, T, Option, Some}
 use Rattle.ladder.specs.Bands.{Table, phase1, well_formed}
 use Rattle.ladder.specs.Ladder.{ladder, is_ladder_price}
 use Rattle.ladder.specs.Search.{first, latest, at_least, at_most}
@@ -12,8 +10,8 @@ use Rattle.limits.specs.Limits.{five_percent, lower_limit, upper_limit, lower_li
 -- A percentage limit of a ladder price always finds a price, where the percentage is taken off for the lower limit and added for the
 -- upper one, as at 5 percent: the reference itself is one. The end of the ladder stands in only at other percentages.
 pub record FindsPrices (t : Table) (percent : Percentage) (r : ℕ) : Type 0 where
-  pub lower : percent.lower ≤ percent.scale → (q : ℕ) × (first (at_least percent.scale (percent.lower * r)) (ladder t) ≡ Price q)
-  pub upper : percent.scale ≤ percent.upper → (q : ℕ) × (latest (at_most percent.scale (percent.upper * r)) (ladder t) ≡ Price q)
+  pub lower : percent.lower ≤ percent.scale → (q : ℕ) × (first (at_least percent.scale (percent.lower * r)) (ladder t) ≡ Some q)
+  pub upper : percent.scale ≤ percent.upper → (q : ℕ) × (latest (at_most percent.scale (percent.upper * r)) (ladder t) ≡ Some q)
 
 abbrev pub PercentageFinds : Type 0
 PercentageFinds = (t : Table) → T (well_formed t) → (percent : Percentage) (r : ℕ) → T (is_ladder_price r t) → FindsPrices t percent r
@@ -39,11 +37,11 @@ LimitsAreOrdered =
     Ordered t percent p q
 
 -- both references have a limit, and that of the higher one, q, is not the smaller
-pub record NoSmaller (limit : ℕ → Found) (p q : ℕ) : Type 0 where
+pub record NoSmaller (limit : ℕ → Option ℕ) (p q : ℕ) : Type 0 where
   pub of_p : ℕ
   pub of_q : ℕ
-  pub p_has : limit p ≡ Price of_p
-  pub q_has : limit q ≡ Price of_q
+  pub p_has : limit p ≡ Some of_p
+  pub q_has : limit q ≡ Some of_q
   pub ordered : of_p ≤ of_q
 
 -- Demand 3c, on Phase 1 at 5 percent: for every two ladder prices as references, the higher never has a smaller lower or upper limit.

@@ -1,8 +1,7 @@
 -- The limits of a reference r, worked out by the plain count over a ladder: the list of all its prices. Document 01, "The two limits of a
 -- reference R". A limit has two names: lower_limit is the number, lower_limit_found what a call answers.
-use Rattle.std.specs.Prelude.{ℕ, ◌*◌, min, max}
+use Rattle.std.specs.Prelude.{ℕ, ◌*◌, min, max, Option}
 use Rattle.ladder.specs.Ladder.{Prices}
-use Rattle.ladder.specs.declared.Found.{Found}
 use Rattle.limits.specs.declared.Percentage.{Percentage}
 use Rattle.ladder.specs.Search.{first, latest, or_else, at_least, at_most}
 use Rattle.ladder.specs.Places.{first_price, last_price}
@@ -34,14 +33,14 @@ abbrev pub upper_limit : Prices → Percentage → ℕ → ℕ
 upper_limit l percent r = max (times limit_spreads (spread_up l) r) (percent_upper l percent r)
 
 -- what the calls answer: from a reference off the ladder, no price. At 5 percent the last two are Low(R) and High(R) of document 01.
-abbrev pub percent_lower_found : Prices → Percentage → ℕ → Found
+abbrev pub percent_lower_found : Prices → Percentage → ℕ → Option ℕ
 percent_lower_found l percent r = if_held r l (percent_lower l percent r)
 
-abbrev pub percent_upper_found : Prices → Percentage → ℕ → Found
+abbrev pub percent_upper_found : Prices → Percentage → ℕ → Option ℕ
 percent_upper_found l percent r = if_held r l (percent_upper l percent r)
 
-abbrev pub lower_limit_found : Prices → Percentage → ℕ → Found
+abbrev pub lower_limit_found : Prices → Percentage → ℕ → Option ℕ
 lower_limit_found l percent r = if_held r l (lower_limit l percent r)
 
-abbrev pub upper_limit_found : Prices → Percentage → ℕ → Found
+abbrev pub upper_limit_found : Prices → Percentage → ℕ → Option ℕ
 upper_limit_found l percent r = if_held r l (upper_limit l percent r)

@@ -1,31 +1,28 @@
-// What the program `worked` tries, and whether it is right: an order by its fields, the bytes of the question that it stands for at a price, and
-// answers compared with those that are due.
+// The orders that the program `worked` tries, each by its fields, and the bytes of the question that an order stands for at a price.
 #![tactic(auto)]
-
-pub mod comparing; // comparing.rt: whether what is found is what is due
 
 ghost use Rattle.std.specs.Prelude.{◌≡◌};
 ghost use Rattle.questions.specs.Record.{bytes_of};
 ghost use Rattle.orders.specs.Orders.{bare, references, asked};
 
-use questions::{Codes, QUESTION_BYTES, Question, References, encoding, missing};
+use questions::{Codes, QUESTION_BYTES, Question, Reference, References, encoding};
 
 // A bid and an ask.
-#[derive(Clone, Copy)]
+#[derive(Clone, Copy, Debug, PartialEq, Eq)]
 pub struct Quotes {
     pub bid: u32,
     pub ask: u32,
 }
 
 // The day's low and high.
-#[derive(Clone, Copy)]
+#[derive(Clone, Copy, Debug, PartialEq, Eq)]
 pub struct DayRange {
     pub low: u32,
     pub high: u32,
 }
 
 // All of a question but its order price. Prices are mils; 0 is a missing reference.
-#[derive(Clone, Copy)]
+#[derive(Clone, Copy, Debug, PartialEq, Eq)]
 pub struct Order {
     pub codes: Codes,
     pub current: Quotes,
@@ -35,6 +32,7 @@ pub struct Order {
     pub nominal: u32,
 }
 
+// The codes are numbers of a question's bytes, and no enums: orders with a code that means nothing are tried too, as side 3.
 pub const BUY: u8 = 1;
 
 pub const SELL: u8 = 2;
@@ -62,9 +60,9 @@ impl Order {
     {
         Order {
             codes: Codes {
-                side: side,
-                order_type: order_type,
-                queue: queue,
+                side,
+                order_type,
+                queue,
                 byte_3: 0,
             },
             current: Quotes { bid: 0, ask: 0 },
@@ -76,62 +74,65 @@ impl Order {
     }
 
     // With this bid and ask.
-    pub fn quotes(mut self, bid: u32, ask: u32) -> Order
-        ensures { result ≡ record { codes = self.codes; current = record { bid = bid; ask = ask }; last = self.last; close = self.close; day = self.day; nominal = self.nominal } }
+    pub fn quotes(self, bid: u32, ask: u32) -> Order
+        ensures { result ≡ record self { current = record { bid = bid; ask = ask } } }
     {
-        self.current.bid = bid;
-        self.current.ask = ask;
-        self
+        Order {
+            current: Quotes { bid, ask },
+            ..self
+        }
     }
 
     // With this last bid and last ask.
-    pub fn last_quotes(mut self, bid: u32, ask: u32) -> Order
-        ensures { result ≡ record { codes = self.codes; current = self.current; last = record { bid = bid; ask = ask }; close = self.close; day = self.day; nominal = self.nominal } }
+    pub fn last_quotes(self, bid: u32, ask: u32) -> Order
+        ensures { result ≡ record self { last = record { bid = bid; ask = ask } } }
     {
-        self.last.bid = bid;
-        self.last.ask = ask;
-        self
+        Order {
+            last: Quotes { bid, ask },
+            ..self
+        }
     }
 
     // With this previous close.
-    pub fn close(mut self, close: u32) -> Order
-        ensures { result ≡ record { codes = self.codes; current = self.current; last = self.last; close = close; day = self.day; nominal = self.nominal } }
+    pub fn close(self, close: u32) -> Order
+        ensures { result ≡ record self { close = close } }
     {
-        self.close = close;
-        self
+        Order { close, ..self }
     }
 
     // With this day low and day high.
-    pub fn day(mut self, low: u32, high: u32) -> Order
-        ensures { result ≡ record { codes = self.codes; current = self.current; last = self.last; close = self.close; day = record { low = low; high = high }; nominal = self.nominal } }
+    pub fn day(self, low: u32, high: u32) -> Order
+        ensures { result ≡ record self { day = record { low = low; high = high } } }
     {
-        self.day.low = low;
-        self.day.high = high;
-        self
+        Order {
+            day: DayRange { low, high },
+            ..self
+        }
     }
 
     // With this nominal price.
-    pub fn nominal(mut self, nominal: u32) -> Order
-        ensures { result ≡ record { codes = self.codes; current = self.current; last = self.last; close = self.close; day = self.day; nominal = nominal } }
+    pub fn nominal(self, nominal: u32) -> Order
+        ensures { result ≡ record self { nominal = nominal } }
     {
-        self.nominal = nominal;
-        self
+        Order { nominal, ..self }
     }
 }
 
 // The references of an order.
-fn references_of(order: Order) -> References
-    ensures { result ≡ references order }
-{
-    References {
-        current_bid: missing::reference_of(order.current.bid),
-        current_ask: missing::reference_of(order.current.ask),
-        last_bid: missing::reference_of(order.last.bid),
-        last_ask: missing::reference_of(order.last.ask),
-        previous_close: missing::reference_of(order.close),
-        day_low: missing::reference_of(order.day.low),
-        day_high: missing::reference_of(order.day.high),
-        nominal: missing::reference_of(order.nominal),
+impl From<Order> for References {
+    ghost from_gives = { λ order found. found ≡ references order };
+
+    fn from(order: Order) -> References {
+        References {
+            current_bid: Reference::from(order.current.bid),
+            current_ask: Reference::from(order.current.ask),
+            last_bid: Reference::from(order.last.bid),
+            last_ask: Reference::from(order.last.ask),
+            previous_close: Reference::from(order.close),
+            day_low: Reference::from(order.day.low),
+            day_high: Reference::from(order.day.high),
+            nominal: Reference::from(order.nominal),
+        }
     }
 }
 
@@ -139,11 +140,9 @@ fn references_of(order: Order) -> References
 pub fn question(order: Order, price: u32) -> [u8; QUESTION_BYTES]
     ensures { result ≡ bytes_of (asked order price) }
 {
-    let codes = order.codes;
-    let references = references_of(order);
     encoding::encode(Question {
-        codes,
+        codes: order.codes,
         price,
-        references,
+        references: References::from(order),
     })
 }

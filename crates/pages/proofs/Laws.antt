@@ -1,4 +1,5 @@
 -- The laws of specs/Laws.antt, proved. Other crates see them as fields of page_laws.
+use Rattle.std.specs.Prelude.{Some, None}
 use mathlib.Core.Path.{◌≡◌, refl, sym, ◌∙◌, ap}
 use Prim.Native.Nat.{ℕ, zero, suc, ◌+◌, ◌*◌, ◌-◌, ◌%◌, ◌≤◌}
 use native.Mathlib.Nat.{add-zero, add-suc, add_assoc}
@@ -7,14 +8,11 @@ use mathlib.Core.Bool.{Bool, true, false, cond}
 use mathlib.Core.List.{List, ◌++◌, append_assoc, append-nil}
 use lib.ListN.{length, take, drop, length-append, length-drop}
 use lib.Seq.{take-append-le, drop-append-le, drop-append-add, drop_at, drop-length, length-take-le}
-use Rattle.facts.proofs.Tests.{zero_is_one}
 use Rattle.text.specs.Decimal.{Text}
 use Rattle.text.specs.Ending.{ending_at}
 use Rattle.limits.specs.declared.Percentage.{Percentage}
 use Rattle.questions.specs.Record.{question_bytes, count_of, question_at}
 use Rattle.judging.specs.Answers.{judged}
-use Rattle.pages.specs.declared.Page.{Page}
-use Rattle.pages.specs.declared.Page.TheVariants.{From, Refused}
 use Rattle.pages.specs.Lines.{line, lines_to, left_line, page}
 use Rattle.pages.specs.Pages.{page_refused}
 use Rattle.pages.specs.Laws.{PagesJoin, EmptyPage, StandsFrom, PageStands, PageLaws}
@@ -65,11 +63,6 @@ empty_page l percent first = refl
 
 -- ---- where a page stands
 
--- where a page begins, 0 for none
-start_of : Page → ℕ
-start_of (From start) = start
-start_of Refused = 0
-
 -- written at the end of a text, x stands there
 ends_with : (x text : Text) → StandsFrom (length text - length x) x (ending_at (length text) x text)
 ends_with x text =
@@ -85,13 +78,12 @@ ends_with x text =
     front = length-take-le (length text - length x) text (omega arith)
 
 page_stands : PageStands
-unfolding start_of
 page_stands l percent first s text start = go (page_refused first (length s) (length text))
   where
-    go : (v : Bool) → cond v Refused (From (length text - length (page l percent first s))) ≡ From start →
+    go : (v : Bool) → cond v None (Some (length text - length (page l percent first s))) ≡ Some start →
         StandsFrom start (page l percent first s) (cond v text (ending_at (length text) (page l percent first s) text))
-    go true e = let n : ◌≡◌ {A = ℕ} 0 1 = cc in absurd (zero_is_one n)
-    go false e = rw (← (ap start_of e)) (ends_with (page l percent first s) text)
+    go true e = cc
+    go false e = let begins : length text - length (page l percent first s) ≡ start = cc in rw (← begins) (ends_with (page l percent first s) text)
 
 -- ---- all of them
 

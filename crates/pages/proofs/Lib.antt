@@ -1,3 +1,3 @@
--- Laws: what other crates see. Lengths: how long lines are.
+-- Laws: what other crates see. Lengths: how long the numbers of a line are.
 pub mod Laws
 mod Lengths

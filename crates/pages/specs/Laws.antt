@@ -1,12 +1,11 @@
 -- The laws of pages. Each is a field of the record PageLaws at the end, which proofs/Laws.antt proves as page_laws: PagesJoin is the field
 -- pages_join.
-use Rattle.std.specs.Prelude.{◌≡◌, ℕ, ◌+◌, ◌%◌, ◌≤◌, [], ◌++◌, length, drop}
+use Rattle.std.specs.Prelude.{◌≡◌, ℕ, ◌+◌, ◌%◌, ◌≤◌, Some, [], ◌++◌, length, drop}
 use Rattle.text.specs.Decimal.{Text}
 use Rattle.ladder.specs.Ladder.{Prices}
 use Rattle.limits.specs.declared.Percentage.{Percentage}
 use Rattle.little_endian.specs.Numbers.{Bytes}
 use Rattle.questions.specs.Record.{question_bytes, count_of}
-use Rattle.pages.specs.declared.Page.TheVariants.{From}
 use Rattle.pages.specs.Lines.{page}
 use Rattle.pages.specs.Pages.{page_place, text_after}
 
@@ -20,14 +19,14 @@ PagesJoin =
 abbrev pub EmptyPage : Type 0
 EmptyPage = (l : Prices) (percent : Percentage) (first : ℕ) → page l percent first [] ≡ []
 
--- Where the call answers `From start`, the text from there to its end is the page, and nothing else.
+-- Where the call answers `Some start`, the text from there to its end is the page, and nothing else.
 pub record StandsFrom (start : ℕ) (page text : Text) : Type 0 where
   pub inside : start ≤ length text
   pub is_page : drop start text ≡ page
 
 abbrev pub PageStands : Type 0
 PageStands =
-    (l : Prices) (percent : Percentage) (first : ℕ) (s : Bytes) (text : Text) (start : ℕ) → page_place l percent first s text ≡ From start →
+    (l : Prices) (percent : Percentage) (first : ℕ) (s : Bytes) (text : Text) (start : ℕ) → page_place l percent first s text ≡ Some start →
     StandsFrom start (page l percent first s) (text_after l percent first s text)
 
 -- ---- all of them

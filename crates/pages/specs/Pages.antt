@@ -1,13 +1,11 @@
 -- A page that is written at the end of a text.
-use Rattle.std.specs.Prelude.{ℕ, ◌+◌, ◌*◌, ◌-◌, Bool, ◌||◌, cond, ltb, length}
+use Rattle.std.specs.Prelude.{ℕ, ◌+◌, ◌*◌, ◌-◌, Bool, ◌||◌, cond, Option, Some, None, ltb, length}
 use Rattle.text.specs.Decimal.{Text}
 use Rattle.text.specs.Ending.{ending_at}
 use Rattle.ladder.specs.Ladder.{Prices}
 use Rattle.limits.specs.declared.Percentage.{Percentage}
 use Rattle.little_endian.specs.Numbers.{Bytes}
 use Rattle.questions.specs.Record.{count_of}
-use Rattle.pages.specs.declared.Page.{Page}
-use Rattle.pages.specs.declared.Page.TheVariants.{From, Refused}
 use Rattle.pages.specs.Lines.{page}
 
 -- the characters that a line may have: a question number of 20 digits, three numbers of 10, and one after each
@@ -23,10 +21,10 @@ left_room = 8
 abbrev pub page_refused : ℕ → ℕ → ℕ → Bool
 page_refused first asked room = ltb room (count_of asked * line_room + left_room) || ltb 18446744073709551615 (first + count_of asked)
 
--- where the page stands: from there to the end of the text
-abbrev pub page_place : Prices → Percentage → ℕ → Bytes → Text → Page
+-- where the page stands: from there to the end of the text; none where it is refused
+abbrev pub page_place : Prices → Percentage → ℕ → Bytes → Text → Option ℕ
 page_place l percent first s text =
-    cond (page_refused first (length s) (length text)) Refused (From (length text - length (page l percent first s)))
+    cond (page_refused first (length s) (length text)) None (Some (length text - length (page l percent first s)))
 
 -- the text after the call, where it was `text` before
 abbrev pub text_after : Prices → Percentage → ℕ → Bytes → Text → Text

@@ -1,76 +1,59 @@
 // The lines, written from the last to the first.
-ghost use Rattle.std.specs.Prelude.{◌≡◌, ◌+◌, ◌*◌, ◌≤◌, ◌<◌, T, length};
-ghost use Rattle.text.specs.Ending.{ending_at};
-ghost use Rattle.ladder.specs.Layout.{is_table, prices_of};
+ghost use Rattle.std.specs.Prelude.{◌≡◌, ◌+◌, ◌*◌, ◌≤◌, ◌<◌, length};
+ghost use Rattle.text.specs.Ending.{Written};
+ghost use Rattle.ladder.specs.Layout.{prices_of};
 ghost use Rattle.questions.specs.Record.{question_bytes};
 ghost use Rattle.pages.specs.Lines.{line, lines_to, left_line};
 ghost use Rattle.pages.specs.Pages.{line_room, left_room, page_refused, page_place, text_after};
 
-use super::{LEFT_ROOM, LINE_ROOM, Page};
+use super::{LEFT_ROOM, LINE_ROOM};
 use judging::Answer;
 use judging::answers::judge as judge_question;
-use limits::Percentage;
+use limits::terms::Terms;
 use questions::QUESTION_BYTES;
-use text::{put_field, put_word};
+use text::Filling;
 
 // Writes the line of one question.
-fn put_line(text: &mut [u8], end: usize, number: u64, answer: Answer) -> usize
-    requires fits { line_room ≤ end }
-    requires inside { end ≤ length text.old }
-    ensures start { result + length (line number answer) ≡ end }
-    ensures room { end ≤ result + line_room }
-    ensures text { text.new ≡ ending_at end (line number answer) text.old }
+#[tactic(auto, using(crate::proofs::Lengths::number_fits, crate::proofs::Lengths::price_fits))]
+fn put_line(text: &mut Filling, number: u64, answer: Answer)
+    requires { line_room ≤ text.old.start }
+    ensures line { Written (line number answer) text.old text.new }
+    ensures room { text.old.start ≤ text.new.start + line_room }
 {
-    let highest_start = put_field(text, end, answer.highest as u64, b'\n');
-    let lowest_start = put_field(text, highest_start, answer.lowest as u64, b' ');
-    let reason_start = put_field(text, lowest_start, answer.number as u64, b' ');
-    put_field(text, reason_start, number, b' ')
+    text.put_field(answer.highest as u64, b'\n');
+    text.put_field(answer.lowest as u64, b' ');
+    text.put_field(answer.number as u64, b' ');
+    text.put_field(number, b' ');
 }
 
 // Writes the lines of the first `count` questions.
-fn put_lines(
-    table: &[u32],
-    percentage: Percentage,
-    questions: &[u8],
-    count: usize,
-    first: u64,
-    text: &mut [u8],
-    end: usize,
-) -> usize
-    requires well_formed { T (is_table table.now) }
+fn put_lines(terms: &Terms, questions: &[u8], count: usize, first: u64, text: &mut Filling)
     requires asked { count * question_bytes ≤ length questions.now }
     requires numbers { first + count < 18446744073709551616 }
-    requires fits { count * line_room ≤ end }
-    requires inside { end ≤ length text.old }
-    ensures start { result + length (lines_to (prices_of table.now) percentage first count questions.now) ≡ end }
-    ensures text { text.new ≡ ending_at end (lines_to (prices_of table.now) percentage first count questions.now) text.old }
+    requires fits { count * line_room ≤ text.old.start }
+    ensures { Written (lines_to (prices_of terms.now.table) terms.now.percentage first count questions.now) text.old text.new }
 {
-    let mut k = count;
-    let mut at = end;
-    while k > 0 {
-        k -= 1;
+    for k in (0..count).rev() {
         let start = k * QUESTION_BYTES;
         let stop = start + QUESTION_BYTES;
-        let answer = judge_question(table, percentage, &questions[start..stop]);
-        at = put_line(text, at, first + k as u64, answer);
+        let answer = judge_question(terms, &questions[start..stop]);
+        put_line(text, first + k as u64, answer);
     }
-    at
 }
 
 // Writes the line of the bytes that are left over, if there are any.
-fn put_left(text: &mut [u8], end: usize, left: usize) -> usize
+#[tactic(auto, using(crate::proofs::Lengths::left_fits))]
+fn put_left(text: &mut Filling, left: usize)
     requires left { left < question_bytes }
-    requires fits { left_room ≤ end }
-    requires inside { end ≤ length text.old }
-    ensures start { result + length (left_line left) ≡ end }
-    ensures room { end ≤ result + left_room }
-    ensures text { text.new ≡ ending_at end (left_line left) text.old }
+    requires fits { left_room ≤ text.old.start }
+    ensures line { Written (left_line left) text.old text.new }
+    ensures room { text.old.start ≤ text.new.start + left_room }
 {
     if left == 0 {
-        return end;
+        return;
     }
-    let number_start = put_field(text, end, left as u64, b'\n');
-    put_word(text, number_start, b"left ")
+    text.put_field(left as u64, b'\n');
+    text.put_word(b"left ");
 }
 
 // Whether a page is refused: by the number of its first question, the bytes of the questions and those of the text.
@@ -85,23 +68,17 @@ fn is_refused(first: u64, asked: usize, room: usize) -> bool
     (count > most) | (first > u64::MAX - count as u64)
 }
 
-// Writes a page at the end of the text.
-pub fn write(
-    table: &[u32],
-    percentage: Percentage,
-    questions: &[u8],
-    first: u64,
-    text: &mut [u8],
-) -> Page
-    requires { T (is_table table.now) }
-    ensures place { result ≡ page_place (prices_of table.now) percentage first questions.now text.old }
-    ensures text { text.new ≡ text_after (prices_of table.now) percentage first questions.now text.old }
+// Writes a page at the end of the text, and answers where it begins; none where it is refused.
+pub fn write(terms: &Terms, questions: &[u8], first: u64, text: &mut [u8]) -> Option<usize>
+    ensures place { result ≡ page_place (prices_of terms.now.table) terms.now.percentage first questions.now text.old }
+    ensures text { text.new ≡ text_after (prices_of terms.now.table) terms.now.percentage first questions.now text.old }
 {
     if is_refused(first, questions.len(), text.len()) {
-        return Page::Refused;
+        return None;
     }
     let count = questions.len() / QUESTION_BYTES;
-    let left_start = put_left(text, text.len(), questions.len() % QUESTION_BYTES);
-    let start = put_lines(table, percentage, questions, count, first, text, left_start);
-    Page::From(start)
+    let mut filling = Filling::new(text);
+    put_left(&mut filling, questions.len() % QUESTION_BYTES);
+    put_lines(terms, questions, count, first, &mut filling);
+    Some(filling.start())
 }

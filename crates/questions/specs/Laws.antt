@@ -1,12 +1,11 @@
 -- The laws of a question's bytes. Each is a field of the record QuestionLaws at the end, which proofs/Laws.antt proves as question_laws:
 -- BytesDecode is the field bytes_decode.
-use Rattle.std.specs.Prelude.{◌≡◌, ◌<◌, Bool, true, ◌&&◌, [], ◌∷◌, T, ltb}
+use Rattle.std.specs.Prelude.{◌≡◌, ◌<◌, Bool, true, ◌&&◌, [], ◌∷◌, T, ltb, Some}
 use Rattle.little_endian.specs.Numbers.{Bytes}
 use Rattle.little_endian.specs.Laws.{byte_bound, number_bound}
 use Rattle.questions.specs.declared.Reference.{Reference}
 use Rattle.questions.specs.declared.Reference.TheVariants.{Missing, Price}
 use Rattle.questions.specs.declared.Question.{Question}
-use Rattle.questions.specs.declared.Decoded.TheVariants.{Asked}
 use Rattle.questions.specs.Record.{decoded, bytes_of}
 
 -- a reference that four bytes can hold: it is missing, or a price above 0, since 0 means missing
@@ -32,7 +31,7 @@ pub record Fits (q : Question) : Type 0 where
 
 -- The bytes of such a question are read back as that question: each has its bytes, so what is said of all bytes is said of each question.
 abbrev pub BytesDecode : Type 0
-BytesDecode = (q : Question) → Fits q → decoded (bytes_of q) ≡ Asked q
+BytesDecode = (q : Question) → Fits q → decoded (bytes_of q) ≡ Some q
 
 -- They are bytes.
 unfoldable pub are_bytes : Bytes → Bool

@@ -1,5 +1,5 @@
 -- References: "each reference is a price or is missing, and 0 means missing". Document 01, "Question and answer".
-use Rattle.std.specs.Prelude.{ℕ, min, max, Bool, true, false, cond, eqb, ltb}
+use Rattle.std.specs.Prelude.{ℕ, min, max, Bool, true, false, cond, eqb, ltb, Option, Some, None}
 use Rattle.questions.specs.declared.Reference.{Reference}
 use Rattle.questions.specs.declared.Reference.TheVariants.{Missing, Price}
 
@@ -11,6 +11,11 @@ reference_of number = cond (eqb number 0) Missing (Price number)
 abbrev pub number_of : Reference → ℕ
 number_of Missing = 0
 number_of (Price p) = p
+
+-- what was found, as a reference
+abbrev pub as_reference : Option ℕ → Reference
+as_reference None = Missing
+as_reference (Some p) = Price p
 
 abbrev pub present : Reference → Bool
 present Missing = false

@@ -1,11 +1,9 @@
 -- A question from its 40 bytes, and its bytes. Document 01, "Question and answer".
-use Rattle.std.specs.Prelude.{ℕ, ◌*◌, ◌/◌, cond, [], ◌∷◌, ◌++◌, eqb, length, get_or, take, drop}
+use Rattle.std.specs.Prelude.{ℕ, ◌*◌, ◌/◌, cond, [], ◌∷◌, ◌++◌, eqb, length, get_or, take, drop, Option, Some, None}
 use Rattle.little_endian.specs.Numbers.{Bytes, number, four_bytes}
 use Rattle.questions.specs.declared.Codes.{Codes}
 use Rattle.questions.specs.declared.References.{References}
 use Rattle.questions.specs.declared.Question.{Question}
-use Rattle.questions.specs.declared.Decoded.{Decoded}
-use Rattle.questions.specs.declared.Decoded.TheVariants.{Asked, WrongLength}
 use Rattle.questions.specs.Missing.{reference_of, number_of}
 
 -- how many bytes a question has
@@ -48,8 +46,8 @@ abbrev pub question_of : Bytes → Question
 question_of s = record { codes = codes_of s; price = price_of s; references = references_of s }
 
 -- bytes of any other number are no question
-abbrev pub decoded : Bytes → Decoded
-decoded s = cond (eqb (length s) question_bytes) (Asked (question_of s)) WrongLength
+abbrev pub decoded : Bytes → Option Question
+decoded s = cond (eqb (length s) question_bytes) (Some (question_of s)) None
 
 -- the bytes of a question, in the same order. The law BytesDecode says that they are read back as that question.
 unfoldable pub bytes_of : Question → Bytes

@@ -4,7 +4,7 @@ ghost use Rattle.little_endian.specs.Numbers.{number};
 ghost use Rattle.questions.specs.Missing.{reference_of};
 ghost use Rattle.questions.specs.Record.{question_bytes, codes_of, references_of, decoded};
 
-use super::{Codes, Decoded, QUESTION_BYTES, Question, Reference, References, missing};
+use super::{Codes, QUESTION_BYTES, Question, Reference, References};
 
 #[tactic(auto, unfolding(crate::specs::Record::codes_of))]
 fn codes_of(s: &[u8]) -> Codes
@@ -23,7 +23,7 @@ fn reference_at(s: &[u8], at: usize) -> Reference
     requires { at + 4 ≤ length s.now }
     ensures { result ≡ reference_of (number at s.now) }
 {
-    missing::reference_of(little_endian::number_at(s, at))
+    Reference::from(little_endian::number_at(s, at))
 }
 
 #[tactic(auto, unfolding(crate::specs::Record::references_of))]
@@ -43,19 +43,16 @@ fn references_of(s: &[u8]) -> References
     }
 }
 
-// The question that the bytes hold.
-pub fn decode(s: &[u8]) -> Decoded
+// The question that the bytes hold; none where they are not as many as a question has.
+pub fn decode(s: &[u8]) -> Option<Question>
     ensures { result ≡ decoded s.now }
 {
     if s.len() != QUESTION_BYTES {
-        return Decoded::WrongLength;
+        return None;
     }
-    let codes = codes_of(s);
-    let price = little_endian::number_at(s, 4);
-    let references = references_of(s);
-    Decoded::Asked(Question {
-        codes,
-        price,
-        references,
+    Some(Question {
+        codes: codes_of(s),
+        price: little_endian::number_at(s, 4),
+        references: references_of(s),
     })
 }

@@ -5,21 +5,21 @@
 
 pub mod decoding; // decoding.rt: a question from its bytes
 pub mod encoding; // encoding.rt: the bytes of a question
-pub mod missing; // missing.rt: references, each a price or missing
+mod missing; // missing.rt: references, each a price or missing
 pub mod checks; // checks.rt: references off the ladder, and pairs of a low and a high
 
 // How many bytes a question has.
 pub const QUESTION_BYTES: usize = 40;
 
 // A reference: a price, or missing.
-#[derive(Clone, Copy)]
+#[derive(Clone, Copy, Debug, PartialEq, Eq)]
 pub enum Reference {
     Missing,
     Price(u32),
 }
 
 // The eight references of a question.
-#[derive(Clone, Copy)]
+#[derive(Clone, Copy, Debug, PartialEq, Eq)]
 pub struct References {
     pub current_bid: Reference,
     pub current_ask: Reference,
@@ -32,7 +32,7 @@ pub struct References {
 }
 
 // The code numbers of a question, as they stand in its first four bytes.
-#[derive(Clone, Copy)]
+#[derive(Clone, Copy, Debug, PartialEq, Eq)]
 pub struct Codes {
     pub side: u8,
     pub order_type: u8,
@@ -42,17 +42,9 @@ pub struct Codes {
 }
 
 // A question. The order price is a number like any other: it may be 0, or off the ladder.
-#[derive(Clone, Copy)]
+#[derive(Clone, Copy, Debug, PartialEq, Eq)]
 pub struct Question {
     pub codes: Codes,
     pub price: u32,
     pub references: References,
-}
-
-// What a slice of bytes holds.
-#[derive(Clone, Copy)]
-pub enum Decoded {
-    Asked(Question),
-    // Not as many bytes as a question has.
-    WrongLength,
 }

@@ -1,85 +1,99 @@
 // References: each is a price or is missing. A minimum or maximum skips what is missing.
 ghost use Rattle.std.specs.Prelude.{◌≡◌};
-ghost use Rattle.questions.specs.Missing.{reference_of, number_of, present, is_below, least, greatest, price_or};
+ghost use Rattle.questions.specs.Missing.{reference_of, number_of, as_reference, present, is_below, least, greatest, price_or};
 
 use super::Reference;
-use ladder::numbers;
 
-// The reference that a number stands for: 0 means missing.
-pub fn reference_of(number: u32) -> Reference
-    ensures { result ≡ reference_of number }
-{
-    if number == 0 {
-        return Reference::Missing;
-    }
-    Reference::Price(number)
-}
+// 0 means missing.
+impl From<u32> for Reference {
+    ghost from_gives = { λ number reference. reference ≡ reference_of number };
 
-// The number that a reference is written as: 0 where it is missing.
-pub fn number_of(reference: Reference) -> u32
-    ensures { result ≡ number_of reference }
-{
-    match reference {
-        Reference::Missing => 0,
-        Reference::Price(price) => price,
+    fn from(number: u32) -> Reference {
+        if number == 0 {
+            return Reference::Missing;
+        }
+        Reference::Price(number)
     }
 }
 
-// Whether a reference is a price.
-pub fn is_present(reference: Reference) -> bool
-    ensures { result ≡ present reference }
-{
-    match reference {
-        Reference::Missing => false,
-        Reference::Price(_) => true,
+// A missing reference is written as 0.
+impl From<Reference> for u32 {
+    ghost from_gives = { λ reference number. number ≡ number_of reference };
+
+    fn from(reference: Reference) -> u32 {
+        match reference {
+            Reference::Missing => 0,
+            Reference::Price(price) => price,
+        }
     }
 }
 
-// Whether both are prices, and the first is below the second.
-pub fn is_below(a: Reference, b: Reference) -> bool
-    ensures { result ≡ is_below a b }
-{
-    match a {
-        Reference::Missing => false,
-        Reference::Price(x) => match b {
-            Reference::Missing => false,
-            Reference::Price(y) => x < y,
-        },
+// What was found, as a reference.
+impl From<Option<u32>> for Reference {
+    ghost from_gives = { λ found reference. reference ≡ as_reference found };
+
+    fn from(found: Option<u32>) -> Reference {
+        match found {
+            None => Reference::Missing,
+            Some(price) => Reference::Price(price),
+        }
     }
 }
 
-// The least of two.
-pub fn least_of(a: Reference, b: Reference) -> Reference
-    ensures { result ≡ least a b }
-{
-    match a {
-        Reference::Missing => b,
-        Reference::Price(x) => match b {
-            Reference::Missing => a,
-            Reference::Price(y) => Reference::Price(numbers::smaller(x, y)),
-        },
+impl Reference {
+    // The price, if there is one.
+    pub fn price(self) -> Option<u32>
+        ensures { self ≡ as_reference result }
+    {
+        match self {
+            Reference::Missing => None,
+            Reference::Price(price) => Some(price),
+        }
     }
-}
 
-// The greatest of two.
-pub fn greatest_of(a: Reference, b: Reference) -> Reference
-    ensures { result ≡ greatest a b }
-{
-    match a {
-        Reference::Missing => b,
-        Reference::Price(x) => match b {
-            Reference::Missing => a,
-            Reference::Price(y) => Reference::Price(numbers::larger(x, y)),
-        },
+    // Whether a reference is a price.
+    pub fn is_present(self) -> bool
+        ensures { result ≡ present self }
+    {
+        matches!(self, Reference::Price(_))
     }
-}
 
-// The price, or another where it is missing.
-pub fn price_or(reference: Reference, other: u32) -> u32
-    ensures { result ≡ price_or other reference }
-{
-    match reference {
-        Reference::Missing => other,
-        Reference::Price(price) => price,
+    // Whether both are prices, and this one is below the other.
+    pub fn is_below(self, other: Reference) -> bool
+        ensures { result ≡ is_below self other }
+    {
+        match (self, other) {
+            (Reference::Price(x), Reference::Price(y)) => x < y,
+            (Reference::Missing, _) | (_, Reference::Missing) => false,
+        }
+    }
+
+    // The least of two.
+    pub fn least(self, other: Reference) -> Reference
+        ensures { result ≡ least self other }
+    {
+        match (self, other) {
+            (Reference::Price(x), Reference::Price(y)) => Reference::Price(x.min(y)),
+            (Reference::Missing, _) => other,
+            (_, Reference::Missing) => self,
+        }
+    }
+
+    // The greatest of two.
+    pub fn greatest(self, other: Reference) -> Reference
+        ensures { result ≡ greatest self other }
+    {
+        match (self, other) {
+            (Reference::Price(x), Reference::Price(y)) => Reference::Price(x.max(y)),
+            (Reference::Missing, _) => other,
+            (_, Reference::Missing) => self,
+        }
+    }
+
+    // The price, or another where it is missing.
+    pub fn price_or(self, other: u32) -> u32
+        ensures { result ≡ price_or other self }
+    {
+        self.price().unwrap_or(other)
     }
 }

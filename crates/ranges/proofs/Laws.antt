@@ -1,11 +1,13 @@
 -- The laws of specs/Laws.antt, proved. Other crates see them as fields of range_laws.
+use native.Mathlib.Omega.{arith}
+use Rattle.std.specs.Prelude.{Some, None, Ok, Err}
 use mathlib.Core.Path.{◌≡◌, refl, ap}
 use Prim.Native.Nat.{ℕ}
 use mathlib.Core.Bool.{Bool, true, false, not, cond, ◌&&◌}
 use lib.Dec.{T, eqb}
 use Rattle.ladder.specs.Bands.{Table, well_formed}
 use Rattle.ladder.specs.Ladder.{ladder, is_ladder_price}
-use Rattle.facts.proofs.Tests.{or_false, zero_is_one}
+use Rattle.std.proofs.lemmas.Bool.{or_parts}
 use Rattle.ladder.proofs.Laws.{ladder_laws}
 use Rattle.limits.specs.declared.Percentage.{Percentage}
 use Rattle.questions.specs.declared.Reference.{Reference}
@@ -15,18 +17,15 @@ use Rattle.rules.specs.declared.Queues.{Queues}
 use Rattle.rules.specs.declared.Queues.TheVariants.{Opening, Both, BuyOnly, SellOnly, Neither}
 use Rattle.rules.specs.declared.Rule.{Rule}
 use Rattle.rules.specs.declared.Rule.TheVariants.{BuyLimit, BuyEnhanced, BuySpecial, SellLimit, SellEnhanced, SellSpecial}
-use Rattle.rules.specs.declared.Choice.TheVariants.{Chosen, Unknown}
 use Rattle.questions.specs.Missing.{present, price_or}
 use Rattle.questions.specs.Checks.{is_off, any_off}
 use Rattle.rules.specs.Checks.{disagree, unopposed}
 use Rattle.rules.specs.Rules.{unknown_code, rule_of, queues_of, chosen, ask_of, bid_of}
 use Rattle.ranges.specs.declared.Range.{Range}
 use Rattle.ranges.specs.declared.Refusal.{Refusal}
-use Rattle.ranges.specs.declared.Reading.{Reading}
-use Rattle.ranges.specs.declared.Reading.TheVariants.{Permitted, Refused}
 use Rattle.ranges.specs.Bounds.{bottom, top}
 use Rattle.ranges.specs.Permitted.{buy_reference, sell_reference, lowest_of, highest_of, range_of}
-use Rattle.ranges.specs.Readings.{in_order, reading_by, reading_on, reading_of}
+use Rattle.ranges.specs.Readings.{Reading, in_order, reading_by, reading_on, reading_of}
 use Rattle.ranges.specs.Laws.{On, StayOn, ReferencesStayOn, EndsOnLadder, BoundsOnLadder, RangeLaws}
 use Rattle.ranges.proofs.OnLadder.{above_on, below_on, stay_on}
 
@@ -50,13 +49,13 @@ module _ (t : Table) (wf : T (well_formed t)) (percent : Percentage) where
   all_on : (r : References) → any_off (ladder t) r ≡ false → AllOn r
   unfolding any_off
   all_on r off =
-      let a = or_false _ (is_off (ladder t) r.nominal) off in
-      let b = or_false _ (is_off (ladder t) r.day_high) a.0 in
-      let c = or_false _ (is_off (ladder t) r.day_low) b.0 in
-      let d = or_false _ (is_off (ladder t) r.previous_close) c.0 in
-      let e = or_false _ (is_off (ladder t) r.last_ask) d.0 in
-      let f = or_false _ (is_off (ladder t) r.last_bid) e.0 in
-      let g = or_false (is_off (ladder t) r.current_bid) (is_off (ladder t) r.current_ask) f.0 in
+      let a = or_parts _ (is_off (ladder t) r.nominal) off in
+      let b = or_parts _ (is_off (ladder t) r.day_high) a.0 in
+      let c = or_parts _ (is_off (ladder t) r.day_low) b.0 in
+      let d = or_parts _ (is_off (ladder t) r.previous_close) c.0 in
+      let e = or_parts _ (is_off (ladder t) r.last_ask) d.0 in
+      let f = or_parts _ (is_off (ladder t) r.last_bid) e.0 in
+      let g = or_parts (is_off (ladder t) r.current_bid) (is_off (ladder t) r.current_ask) f.0 in
       record {
         current_bid = stay.passed _ g.0;
         current_ask = stay.passed _ g.1;
@@ -163,11 +162,11 @@ module _ (t : Table) (wf : T (well_formed t)) (percent : Percentage) where
 
 -- the range of a reading; of a refusal none is asked for
 range_in : Range → Reading → Range
-range_in none (Permitted range) = range
-range_in none (Refused refusal) = none
+range_in none (Ok range) = range
+range_in none (Err refusal) = none
 
-refused_or_permitted : {C : Type 0} (x : Refusal) (range : Range) → Refused x ≡ Permitted range → C
-refused_or_permitted x range e = let n : ◌≡◌ {A = ℕ} 0 1 = cc in absurd (zero_is_one n)
+refused_or_permitted : {C : Type 0} (x : Refusal) (range : Range) → Err x ≡ Ok range → C
+refused_or_permitted x range e = absurd (grind arith)
 
 bounds_on_ladder : BoundsOnLadder
 unfolding reading_of chosen reading_by range_of range_in
@@ -181,7 +180,7 @@ bounds_on_ladder t wf percent c r range = by_codes (unknown_code c)
 
     -- a range only where no check applies
     by_checks : (off disagrees alone : Bool) → any_off (ladder t) r ≡ off →
-        in_order off disagrees alone (Permitted (range_of (ladder t) percent rule q r)) ≡ Permitted range → EndsOnLadder t range
+        in_order off disagrees alone (Ok (range_of (ladder t) percent rule q r)) ≡ Ok range → EndsOnLadder t range
     by_checks true true true a e = refused_or_permitted _ _ e
     by_checks true true false a e = refused_or_permitted _ _ e
     by_checks true false true a e = refused_or_permitted _ _ e
@@ -195,7 +194,7 @@ bounds_on_ladder t wf percent c r range = by_codes (unknown_code c)
         rw (← (ap (range_in range) e))
         (record { lowest_on = lowest_on t wf percent q r queues all rule; highest_on = highest_on t wf percent q r queues all rule })
 
-    by_codes : (unknown : Bool) → reading_on (ladder t) percent (cond unknown Unknown (Chosen rule q)) r ≡ Permitted range → EndsOnLadder t range
+    by_codes : (unknown : Bool) → reading_on (ladder t) percent (cond unknown None (Some (record { rule = rule; queues = q }))) r ≡ Ok range → EndsOnLadder t range
     by_codes true e = refused_or_permitted _ _ e
     by_codes false e = by_checks (any_off (ladder t) r) (disagree q r) (unopposed rule q) refl e
 

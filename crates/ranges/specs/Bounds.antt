@@ -1,23 +1,16 @@
 -- What bounds a range: the limits of a reference, and nine spreads from it. What is missing stays missing.
 -- Over any ladder l, the list of its prices, and any percentage.
-use Rattle.std.specs.Prelude.{ℕ}
+use Rattle.std.specs.Prelude.{ℕ, Option}
 use Rattle.ladder.specs.Ladder.{Prices}
-use Rattle.ladder.specs.declared.Found.{Found}
-use Rattle.ladder.specs.declared.Found.TheVariants as found
 use Rattle.ladder.specs.Places.{first_price, last_price}
 use Rattle.ladder.specs.Spreads.{spreads_up, spreads_down}
 use Rattle.questions.specs.declared.Reference.{Reference}
 use Rattle.questions.specs.declared.Reference.TheVariants.{Missing, Price}
+use Rattle.questions.specs.Missing.{as_reference}
 
--- what was found, as a reference. A limit or a spread from a price off the ladder is not found; check 3 refuses such a price before
--- its range is asked for
-abbrev pub as_reference : Found → Reference
-as_reference (found.Price p) = Price p
-as_reference found.Nothing = Missing
-
--- what a limit or a step finds from a reference; from one that is missing, nothing. Document 01's Low(R) of a reference that may be missing
+-- what a limit or a step finds from a reference (from a price off the ladder nothing: check 3 refuses it before its range is asked for); from one that is missing, nothing. Document 01's Low(R) of a reference that may be missing
 -- is from_reference (lower_limit_found l percent) R, and High(R) the same with upper_limit_found
-abbrev pub from_reference : (ℕ → Found) → Reference → Reference
+abbrev pub from_reference : (ℕ → Option ℕ) → Reference → Reference
 from_reference find Missing = Missing
 from_reference find (Price r) = as_reference (find r)
 

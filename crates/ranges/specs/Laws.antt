@@ -1,6 +1,6 @@
 -- The laws of ranges. Each is a field of the record RangeLaws at the end, which proofs/Laws.antt proves as range_laws: BoundsOnLadder is the
 -- field bounds_on_ladder.
-use Rattle.std.specs.Prelude.{◌≡◌, ℕ, false, T}
+use Rattle.std.specs.Prelude.{◌≡◌, ℕ, false, T, Ok}
 use Rattle.ladder.specs.Bands.{Table, well_formed}
 use Rattle.ladder.specs.Ladder.{ladder, is_ladder_price}
 use Rattle.limits.specs.declared.Percentage.{Percentage}
@@ -12,7 +12,6 @@ use Rattle.questions.specs.declared.References.{References}
 use Rattle.questions.specs.Missing.{least, greatest, price_or}
 use Rattle.questions.specs.Checks.{is_off}
 use Rattle.ranges.specs.declared.Range.{Range}
-use Rattle.ranges.specs.declared.Reading.TheVariants.{Permitted}
 use Rattle.ranges.specs.Bounds.{from_reference}
 use Rattle.ranges.specs.Readings.{reading_of}
 
@@ -43,7 +42,7 @@ pub record EndsOnLadder (t : Table) (range : Range) : Type 0 where
 abbrev pub BoundsOnLadder : Type 0
 BoundsOnLadder =
     (t : Table) → T (well_formed t) → (percent : Percentage) (c : Codes) (r : References) (range : Range) →
-    reading_of (ladder t) percent c r ≡ Permitted range → EndsOnLadder t range
+    reading_of (ladder t) percent c r ≡ Ok range → EndsOnLadder t range
 
 -- ---- all of them
 

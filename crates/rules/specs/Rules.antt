@@ -1,6 +1,6 @@
 -- "The side, order type and queue code together choose the range": the rule, and the queues with the
 -- current or last bid and ask that the rules look at. Document 01, "Question and answer" and "Permitted range".
-use Rattle.std.specs.Prelude.{ℕ, Bool, not, cond, ◌||◌, eqb}
+use Rattle.std.specs.Prelude.{ℕ, Bool, not, cond, ◌||◌, eqb, Option, Some, None}
 use Rattle.questions.specs.declared.Reference.{Reference}
 use Rattle.questions.specs.declared.Reference.TheVariants.{Missing}
 use Rattle.questions.specs.declared.Codes.{Codes}
@@ -9,8 +9,7 @@ use Rattle.rules.specs.declared.Queues.{Queues}
 use Rattle.rules.specs.declared.Queues.TheVariants.{Opening, Both, BuyOnly, SellOnly, Neither}
 use Rattle.rules.specs.declared.Rule.{Rule}
 use Rattle.rules.specs.declared.Rule.TheVariants.{BuyLimit, BuyEnhanced, BuySpecial, SellLimit, SellEnhanced, SellSpecial}
-use Rattle.rules.specs.declared.Choice.{Choice}
-use Rattle.rules.specs.declared.Choice.TheVariants.{Chosen, Unknown}
+use Rattle.rules.specs.declared.Chosen.{Chosen}
 
 -- "the side (1 buy, 2 sell)"
 abbrev pub known_side : ℕ → Bool
@@ -44,9 +43,9 @@ queues_of code r =
     (cond (eqb code 4) (SellOnly r.current_ask)
     (Neither r.last_bid r.last_ask))))
 
--- what the codes choose
-unfoldable pub chosen : Codes → References → Choice
-chosen c r = cond (unknown_code c) Unknown (Chosen (rule_of c.side c.order_type) (queues_of c.queue r))
+-- what the codes choose; nothing where one is unknown
+unfoldable pub chosen : Codes → References → Option Chosen
+chosen c r = cond (unknown_code c) None (Some (record { rule = rule_of c.side c.order_type; queues = queues_of c.queue r }))
 
 -- the current ask, where there is a sell queue (codes 2, 4)
 abbrev pub ask_of : Queues → Reference

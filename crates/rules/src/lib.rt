@@ -1,7 +1,7 @@
 // The rule that the side, order type and queue code of a question choose together, and the checks that depend on it.
 #![tactic(auto)]
 
-pub mod checks; // checks.rt: references that disagree, special orders with no opposite queue
+mod checks; // checks.rt: references that disagree, special orders with no opposite queue
 
 ghost use Rattle.std.specs.Prelude.{◌≡◌};
 ghost use Rattle.rules.specs.Rules.{chosen, ask_of, bid_of};
@@ -9,7 +9,7 @@ ghost use Rattle.rules.specs.Rules.{chosen, ask_of, bid_of};
 use questions::{Codes, Reference, References};
 
 // The queues, as the queue code tells of them, with the current or last bid and ask that the rules look at then.
-#[derive(Clone, Copy)]
+#[derive(Clone, Copy, Debug, PartialEq, Eq)]
 pub enum Queues {
     // No bid and no ask yet today.
     Opening,
@@ -24,7 +24,7 @@ pub enum Queues {
 }
 
 // The rule for an order, by its side and type. With the queues, which the queue code chooses, it gives the permitted range.
-#[derive(Clone, Copy)]
+#[derive(Clone, Copy, Debug, PartialEq, Eq)]
 pub enum Rule {
     BuyLimit,
     BuyEnhanced,
@@ -35,75 +35,64 @@ pub enum Rule {
 }
 
 // What the codes of a question choose.
-#[derive(Clone, Copy)]
-pub enum Choice {
-    Chosen(Rule, Queues),
-    // No rule has these codes.
-    Unknown,
+#[derive(Clone, Copy, Debug, PartialEq, Eq)]
+pub struct Chosen {
+    pub rule: Rule,
+    pub queues: Queues,
 }
 
-// The rule and the queues that the codes choose.
+// The rule and the queues that the codes choose; none where no rule has these codes.
 #[tactic(auto, unfolding(crate::specs::Rules::chosen))]
-pub fn choose(codes: Codes, references: References) -> Choice
+pub fn choose(codes: Codes, references: References) -> Option<Chosen>
     ensures { result ≡ chosen codes references }
 {
     if codes.byte_3 != 0 {
-        return Choice::Unknown;
+        return None;
     }
-    let side = codes.side;
-    let order_type = codes.order_type;
-    let queue = codes.queue;
-    let current_bid = references.current_bid;
-    let current_ask = references.current_ask;
-    let last_bid = references.last_bid;
-    let last_ask = references.last_ask;
-    let queues = match queue {
+    let queues = match codes.queue {
         1 => Queues::Opening,
-        2 => Queues::Both(current_bid, current_ask),
-        3 => Queues::BuyOnly(current_bid),
-        4 => Queues::SellOnly(current_ask),
-        5 => Queues::Neither(last_bid, last_ask),
-        0 | 6..=255 => return Choice::Unknown,
+        2 => Queues::Both(references.current_bid, references.current_ask),
+        3 => Queues::BuyOnly(references.current_bid),
+        4 => Queues::SellOnly(references.current_ask),
+        5 => Queues::Neither(references.last_bid, references.last_ask),
+        0 | 6..=255 => return None,
     };
-    match side {
-        1 => match order_type {
-            1 => Choice::Chosen(Rule::BuyLimit, queues),
-            2 => Choice::Chosen(Rule::BuyEnhanced, queues),
-            3 => Choice::Chosen(Rule::BuySpecial, queues),
-            0 | 4..=255 => Choice::Unknown,
+    let rule = match codes.side {
+        1 => match codes.order_type {
+            1 => Rule::BuyLimit,
+            2 => Rule::BuyEnhanced,
+            3 => Rule::BuySpecial,
+            0 | 4..=255 => return None,
         },
-        2 => match order_type {
-            1 => Choice::Chosen(Rule::SellLimit, queues),
-            2 => Choice::Chosen(Rule::SellEnhanced, queues),
-            3 => Choice::Chosen(Rule::SellSpecial, queues),
-            0 | 4..=255 => Choice::Unknown,
+        2 => match codes.order_type {
+            1 => Rule::SellLimit,
+            2 => Rule::SellEnhanced,
+            3 => Rule::SellSpecial,
+            0 | 4..=255 => return None,
         },
-        0 | 3..=255 => Choice::Unknown,
-    }
+        0 | 3..=255 => return None,
+    };
+    Some(Chosen { rule, queues })
 }
 
-// The current ask, where there is a sell queue.
-pub fn ask_of(queues: Queues) -> Reference
-    ensures { result ≡ ask_of queues }
-{
-    match queues {
-        Queues::Opening => Reference::Missing,
-        Queues::Both(_, ask) => ask,
-        Queues::BuyOnly(_) => Reference::Missing,
-        Queues::SellOnly(ask) => ask,
-        Queues::Neither(_, _) => Reference::Missing,
+impl Queues {
+    // The current ask, where there is a sell queue.
+    pub fn ask(self) -> Reference
+        ensures { result ≡ ask_of self }
+    {
+        match self {
+            Queues::Both(_, ask) | Queues::SellOnly(ask) => ask,
+            Queues::Opening | Queues::BuyOnly(_) | Queues::Neither(..) => Reference::Missing,
+        }
     }
-}
 
-// The current bid, where there is a buy queue.
-pub fn bid_of(queues: Queues) -> Reference
-    ensures { result ≡ bid_of queues }
-{
-    match queues {
-        Queues::Opening => Reference::Missing,
-        Queues::Both(bid, _) => bid,
-        Queues::BuyOnly(bid) => bid,
-        Queues::SellOnly(_) => Reference::Missing,
-        Queues::Neither(_, _) => Reference::Missing,
+    // The current bid, where there is a buy queue.
+    pub fn bid(self) -> Reference
+        ensures { result ≡ bid_of self }
+    {
+        match self {
+            Queues::Both(bid, _) | Queues::BuyOnly(bid) => bid,
+            Queues::Opening | Queues::SellOnly(_) | Queues::Neither(..) => Reference::Missing,
+        }
     }
 }

@@ -9,10 +9,11 @@ use lib.Dec.{T, ltb, leb}
 use lib.ListN.{length, get_or, length-append, get_or-append}
 use borrow.Author.Tests.{ltb-true, ltb-false, le-leb}
 use Rattle.text.specs.Decimal.{Text, digit, decimal}
-use Rattle.text.specs.Laws.{DecimalIs, value_after, are_digits, Decimal, DecimalReadsBack, DecimalIsShort, TextLaws}
+use Rattle.text.specs.Laws.{DecimalIs, value_after, are_digits, Decimal, DecimalReadsBack, DecimalIsShort, WrittenInFront, TextLaws}
 use Rattle.text.proofs.Decimals as decimals
 use Rattle.text.proofs.Decimals.{one_digit, last_digit, has_digits, by_digits}
-use Rattle.text.proofs.Filling.{by_parts}
+use Rattle.text.proofs.Parts as parts
+use Rattle.text.proofs.Parts.{filled_by_parts}
 
 decimal_is : DecimalIs
 decimal_is = decimals.decimal_is
@@ -74,11 +75,17 @@ decimal_is_short (suc (suc k)) n h m = go (decimal_is_short (suc k) (n / 10)) (l
         let less : n / 10 < 10 ^ suc k = omega (arith, pow-succ' 10 (suc k), m) in
         rw (last_digit n (ltb-false n 10 e)) (omega (arith, length-append (decimal (n / 10)) (digit (n % 10) ∷ []), tenth (omega arith) less))
 
+-- ---- written
+
+written_in_front : WrittenInFront
+written_in_front = parts.written_in_front
+
 pub text_laws : TextLaws
 text_laws =
     record {
       decimal_is = decimal_is;
       decimal_reads_back = decimal_reads_back;
       decimal_is_short = decimal_is_short;
-      filled_by_parts = by_parts;
+      written_in_front = written_in_front;
+      filled_by_parts = filled_by_parts;
     }

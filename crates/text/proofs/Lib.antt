@@ -1,4 +1,4 @@
--- Laws: what other crates see. Decimals: numbers digit by digit. Filling: a text that is being filled from its end.
+-- Laws: what other crates see. Decimals: numbers digit by digit. Parts: a text that is filled from its end, part by part.
 pub mod Laws
-mod Filling
+mod Parts
 mod Decimals

@@ -2,7 +2,8 @@
 -- decimal_is.
 use Rattle.std.specs.Prelude.{◌≡◌, ℕ, ◌+◌, ◌*◌, ◌-◌, ◌/◌, ◌%◌, ◌^◌, ◌<◌, ◌≤◌, Bool, true, cond, ◌&&◌, [], ◌∷◌, ◌++◌, T, ltb, leb, length, get_or}
 use Rattle.text.specs.Decimal.{Text, digit, decimal}
-use Rattle.text.specs.Ending.{ending_at, Filled}
+use Rattle.text.specs.declared.Filling.{Filling}
+use Rattle.text.specs.Ending.{Written, Filled}
 
 -- One digit, or the last one after those of a tenth.
 abbrev pub DecimalIs : Type 0
@@ -32,19 +33,22 @@ DecimalReadsBack = (n : ℕ) → Decimal n
 abbrev pub DecimalIsShort : Type 0
 DecimalIsShort = (k n : ℕ) → 0 < k → n < 10 ^ k → length (decimal n) ≤ k
 
--- A text is filled from its end, part by part: it begins with nothing written; the last part x of what is left fits, and once it is written
--- the text is filled further; its length stays; and where nothing is left, it ends with all that was to be written.
-pub record ByParts (all : Text) (end : ℕ) (s : Text) : Type 0 where
-  pub begun : Filled all all end end s s
-  pub fits : (less x : Text) (at : ℕ) (now : Text) → Filled all (less ++ x) at end s now → length all ≤ end → end ≤ length s →
-      (length x ≤ at) × (at ≤ length now)
-  pub further : (rest : Text) (at : ℕ) (now : Text) → Filled all rest at end s now → end ≤ length s → (less x : Text) → rest ≡ less ++ x →
-      (start : ℕ) → start + length x ≡ at → (next : Text) → next ≡ ending_at at x now → Filled all less start end s next
-  pub same_length : (rest : Text) (at : ℕ) (now : Text) → Filled all rest at end s now → end ≤ length s → length now ≡ length s
-  pub ended : (at : ℕ) (now : Text) → Filled all [] at end s now → (at + length all ≡ end) × (now ≡ ending_at end all s)
+-- What is written, and then what is written in front of it, are written as one.
+abbrev pub WrittenInFront : Type 0
+WrittenInFront = (x y : Text) (was next now : Filling) → Written x was next → Written y next now → Written (y ++ x) was now
+
+-- A text is filled from its end, part by part: it begins with nothing written; what is left fits; once the last part x of it is written, the
+-- text is filled further; the room keeps its length; and where nothing is left, all that was to be written is written.
+pub record ByParts (all : Text) (was : Filling) : Type 0 where
+  pub begun : Filled all all was was
+  pub fits : {rest : Text} {now : Filling} → Filled all rest was now → length all ≤ was.start → length rest ≤ now.start
+  pub further : {rest less x : Text} {now next : Filling} → Filled all rest was now → rest ≡ less ++ x → Written x now next →
+      Filled all less was next
+  pub same_length : {rest : Text} {now : Filling} → Filled all rest was now → length now.room.now ≡ length was.room.now
+  pub ended : {now : Filling} → Filled all [] was now → Written all was now
 
 abbrev pub FilledByParts : Type 0
-FilledByParts = (all : Text) (end : ℕ) (s : Text) → ByParts all end s
+FilledByParts = (all : Text) (was : Filling) → ByParts all was
 
 -- ---- all of them
 
@@ -52,4 +56,5 @@ pub record TextLaws : Type 0 where
   pub decimal_is : DecimalIs
   pub decimal_reads_back : DecimalReadsBack
   pub decimal_is_short : DecimalIsShort
+  pub written_in_front : WrittenInFront
   pub filled_by_parts : FilledByParts

@@ -1,11 +1,9 @@
-// Text that is filled from its end. Each function writes so that its last character stands just before `end`, and answers where its
-// first one stands.
+// Text that is filled from its end.
 #![tactic(auto)]
 
-ghost use Rattle.std.specs.Prelude.{◌≡◌, ◌+◌, ◌≤◌, ◌<◌, [], ◌∷◌, length};
+ghost use Rattle.std.specs.Prelude.{◌≡◌, ◌≤◌, ◌<◌, [], ◌∷◌, length};
 ghost use Rattle.text.specs.Decimal.{two_digits, decimal, field};
 ghost use Rattle.text.specs.Decimal.{digit as Decimal·digit};
-ghost use Rattle.text.specs.Ending.{ending_at};
 
 // The character of a digit.
 fn digit(d: u64) -> u8
@@ -15,72 +13,85 @@ fn digit(d: u64) -> u8
     48 + d as u8
 }
 
-// Writes one character.
-fn put(text: &mut [u8], end: usize, character: u8) -> usize
-    requires fits { 1 ≤ end }
-    requires inside { end ≤ length text.old }
-    ensures start { result + 1 ≡ end }
-    ensures text { text.new ≡ ending_at end (character ∷ []) text.old }
-{
-    let at = end - 1;
-    text[at] = character;
-    at
+// A text that is filled from its end: what is written stands from `start` on, and each method writes in front of it.
+#[derive(Drop)]
+pub struct Filling<'a> {
+    room: &'a mut [u8],
+    start: usize,
+    ghost within: { start ≤ length room.now },
 }
 
-// Writes a word.
-pub fn put_word(text: &mut [u8], end: usize, word: &[u8]) -> usize
-    requires fits { length word.now ≤ end }
-    requires inside { end ≤ length text.old }
-    ensures start { result + length word.now ≡ end }
-    ensures text { text.new ≡ ending_at end word.now text.old }
-{
-    let mut k = word.len();
-    let mut at = end;
-    while k > 0 {
-        k -= 1;
-        at = put(text, at, word[k]);
+impl<'a> Filling<'a> {
+    ghost use Rattle.text.specs.Ending.{Written};
+
+    // Nothing is written yet.
+    pub fn new(room: &'a mut [u8]) -> Filling<'a>
+        ensures start { result.start ≡ length room.old }
+        ensures room { result.room ≡ room.entry }
+    {
+        let start = room.len();
+        Filling { room, start }
     }
-    at
-}
 
-// Writes two digits.
-fn put_pair(text: &mut [u8], end: usize, pair: u64) -> usize
-    requires below_100 { pair < 100 }
-    requires fits { 2 ≤ end }
-    requires inside { end ≤ length text.old }
-    ensures start { result + 2 ≡ end }
-    ensures text { text.new ≡ ending_at end (two_digits pair) text.old }
-{
-    let at = put(text, end, digit(pair % 10));
-    put(text, at, digit(pair / 10))
-}
-
-// Writes a number in decimal, two digits at a time, which is quicker than one.
-fn put_decimal(text: &mut [u8], end: usize, n: u64) -> usize
-    requires fits { length (decimal n) ≤ end }
-    requires inside { end ≤ length text.old }
-    ensures start { result + length (decimal n) ≡ end }
-    ensures text { text.new ≡ ending_at end (decimal n) text.old }
-{
-    let mut at = end;
-    let mut rest = n;
-    while rest >= 100 {
-        at = put_pair(text, at, rest % 100);
-        rest /= 100;
+    // Where the text starts.
+    pub fn start(&self) -> usize
+        ensures { result ≡ self.now.start }
+    {
+        self.start
     }
-    if rest < 10 {
-        return put(text, at, digit(rest));
-    }
-    put_pair(text, at, rest)
-}
 
-// Writes a number in decimal and a character after it.
-pub fn put_field(text: &mut [u8], end: usize, n: u64, after: u8) -> usize
-    requires fits { length (field n after) ≤ end }
-    requires inside { end ≤ length text.old }
-    ensures start { result + length (field n after) ≡ end }
-    ensures text { text.new ≡ ending_at end (field n after) text.old }
-{
-    let at = put(text, end, after);
-    put_decimal(text, at, n)
+    // Writes one character.
+    fn put(&mut self, character: u8)
+        requires { 1 ≤ self.old.start }
+        ensures { Written (character ∷ []) self.old self.new }
+    {
+        self.start -= 1;
+        self.room[self.start] = character;
+    }
+
+    // Writes a word.
+    pub fn put_word(&mut self, word: &[u8])
+        requires { length word.now ≤ self.old.start }
+        ensures { Written word.now self.old self.new }
+    {
+        let end = self.start;
+        self.start -= word.len();
+        self.room[self.start..end].copy_from_slice(word);
+    }
+
+    // Writes two digits.
+    fn put_pair(&mut self, pair: u64)
+        requires below_100 { pair < 100 }
+        requires fits { 2 ≤ self.old.start }
+        ensures { Written (two_digits pair) self.old self.new }
+    {
+        self.put(digit(pair % 10));
+        self.put(digit(pair / 10));
+    }
+
+    // Writes a number in decimal, two digits at a time, which is quicker than one.
+    fn put_decimal(&mut self, n: u64)
+        requires { length (decimal n) ≤ self.old.start }
+        ensures { Written (decimal n) self.old self.new }
+    {
+        let mut rest = n;
+        while rest >= 100 {
+            self.put_pair(rest % 100);
+            rest /= 100;
+        }
+        if rest < 10 {
+            self.put(digit(rest));
+            return;
+        }
+        self.put_pair(rest);
+    }
+
+    // Writes a number in decimal and a character after it.
+    pub fn put_field(&mut self, n: u64, after: u8)
+        requires { length (field n after) ≤ self.old.start }
+        ensures { Written (field n after) self.old self.new }
+    {
+        self.put(after);
+        self.put_decimal(n);
+    }
 }

@@ -1,4 +1,5 @@
 -- The laws of specs/Laws.antt, proved. Other crates see them as fields of trade_laws.
+use Rattle.std.specs.Prelude.{Ok, Err}
 use mathlib.Core.Path.{◌≡◌, refl}
 use Prim.Native.Nat.{ℕ, ◌≤◌}
 use native.Mathlib.Omega.{arith}
@@ -8,13 +9,13 @@ use borrow.Author.Tests.{le-ltb}
 use Rattle.ladder.specs.Bands.{Table, well_formed}
 use Rattle.ladder.specs.Ladder.{Prices, ladder, is_ladder_price}
 use Rattle.ladder.specs.Places.{first_price, last_price}
-use Rattle.facts.proofs.Tests.{and_left, and_right, or_false, true_is_false, below}
+use Rattle.facts.proofs.Tests.{and_left, and_right, below}
+use Rattle.std.proofs.lemmas.Bool.{or_parts, true≢false}
 use Rattle.ladder.proofs.Laws.{ladder_laws}
 use Rattle.limits.specs.declared.Percentage.{Percentage}
 use Rattle.limits.specs.Limits.{lower_limit_found, upper_limit_found}
 use Rattle.questions.specs.Checks.{is_off, bad_pair}
 use Rattle.ranges.specs.declared.Range.{Range}
-use Rattle.ranges.specs.declared.Reading.TheVariants.{Permitted, Refused}
 use Rattle.ranges.specs.declared.Refusal.TheVariants.{OffLadder, Disagreement}
 use Rattle.ranges.specs.Bounds.{from_reference}
 use Rattle.ranges.proofs.Laws.{range_laws}
@@ -46,7 +47,7 @@ accepts t wf range p low high =
 
     go : (o x y : Bool) → (T (x && y) → o ≡ false) →
         eqb (verdict_number (cond o OutsideLadder (cond (not x) BelowLowest (cond (not y) AboveHighest Accepted)))) 0 ≡ (x && y)
-    go true true true f = true_is_false (f tt)
+    go true true true f = absurd (true≢false (f tt))
     go true true false f = refl
     go true false y f = refl
     go false false y f = refl
@@ -54,13 +55,13 @@ accepts t wf range p low high =
     go false true true f = refl
 
 module _ (t : Table) (wf : T (well_formed t)) (percent : Percentage) (r : TradeReferences) where
-  on_and_paired : any_trade_off (ladder t) r ≡ false → trade_disagrees r ≡ false → (p : ℕ) → FromTo t (trade_by (ladder t) (Permitted (trade_range (ladder t) percent r)) p) p
+  on_and_paired : any_trade_off (ladder t) r ≡ false → trade_disagrees r ≡ false → (p : ℕ) → FromTo t (trade_by (ladder t) (Ok (trade_range (ladder t) percent r)) p) p
   unfolding any_trade_off
   on_and_paired off disagrees p =
-      let a = or_false _ (is_off (ladder t) r.highest_ask) off in
-      let b = or_false _ (is_off (ladder t) r.highest_bid) a.0 in
-      let c = or_false _ (is_off (ladder t) r.lowest_ask) b.0 in
-      let d = or_false (is_off (ladder t) r.previous_close) (is_off (ladder t) r.lowest_bid) c.0 in
+      let a = or_parts _ (is_off (ladder t) r.highest_ask) off in
+      let b = or_parts _ (is_off (ladder t) r.highest_bid) a.0 in
+      let c = or_parts _ (is_off (ladder t) r.lowest_ask) b.0 in
+      let d = or_parts (is_off (ladder t) r.previous_close) (is_off (ladder t) r.lowest_bid) c.0 in
       let stay = range_laws.references_stay_on t wf percent in
       let close = stay.passed r.previous_close d.0 in
       let ends = ladder_laws.ends_are_the_tables t wf in
@@ -70,7 +71,7 @@ module _ (t : Table) (wf : T (well_formed t)) (percent : Percentage) (r : TradeR
       let high =
       stay.price_on _ _ ends.last_on
       (stay.greatest_on _ _ (stay.upper_on _ close) (stay.greatest_on _ _ (stay.passed r.highest_bid b.1) (stay.passed r.highest_ask a.1))) in
-      let pairs = or_false (bad_pair r.lowest_bid r.highest_bid) (bad_pair r.lowest_ask r.highest_ask) disagrees in
+      let pairs = or_parts (bad_pair r.lowest_bid r.highest_bid) (bad_pair r.lowest_ask r.highest_ask) disagrees in
       let first_below_last = ends.none_below (last_price (ladder t)) ends.last_on in
       record {
         range =
@@ -92,8 +93,8 @@ unfolding trade_judged trade_reading
 trade_range_lem t wf percent p r not_refused_lem = go (any_trade_off (ladder t) r) (trade_disagrees r) refl refl not_refused_lem
   where
     go : (off disagrees : Bool) → any_trade_off (ladder t) r ≡ off → trade_disagrees r ≡ disagrees →
-        (T (is_trade_refusal (trade_by (ladder t) (cond off (Refused OffLadder) (cond disagrees (Refused Disagreement) (Permitted (trade_range (ladder t) percent r)))) p).number) → ⊥) →
-        FromTo t (trade_by (ladder t) (cond off (Refused OffLadder) (cond disagrees (Refused Disagreement) (Permitted (trade_range (ladder t) percent r)))) p) p
+        (T (is_trade_refusal (trade_by (ladder t) (cond off (Err OffLadder) (cond disagrees (Err Disagreement) (Ok (trade_range (ladder t) percent r)))) p).number) → ⊥) →
+        FromTo t (trade_by (ladder t) (cond off (Err OffLadder) (cond disagrees (Err Disagreement) (Ok (trade_range (ladder t) percent r)))) p) p
     go true b e f n = absurd (n tt)
     go false true e f n = absurd (n tt)
     go false false e f n = on_and_paired t wf percent r e f p
@@ -101,7 +102,7 @@ trade_range_lem t wf percent p r not_refused_lem = go (any_trade_off (ladder t) 
 -- ---- the numbers
 
 -- a trade with a range gets 0, 6, 8 or 9
-priced : (l : Prices) (range : Range) (p : ℕ) → Numbers (trade_by l (Permitted range) p)
+priced : (l : Prices) (range : Range) (p : ℕ) → Numbers (trade_by l (Ok range) p)
 unfolding trade_verdict
 priced l range p = go (outside l p) (below_lowest range p) (above_highest range p)
   where
@@ -117,7 +118,7 @@ unfolding trade_judged trade_reading
 trade_numbers l percent p d = go (any_trade_off l d) (trade_disagrees d)
   where
     go : (off disagrees : Bool) →
-        Numbers (trade_by l (cond off (Refused OffLadder) (cond disagrees (Refused Disagreement) (Permitted (trade_range l percent d)))) p)
+        Numbers (trade_by l (cond off (Err OffLadder) (cond disagrees (Err Disagreement) (Ok (trade_range l percent d)))) p)
     go true b = record { one_of = tt; refused = λ h. refl }
     go false true = record { one_of = tt; refused = λ h. refl }
     go false false = priced l (trade_range l percent d) p

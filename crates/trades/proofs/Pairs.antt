@@ -10,7 +10,7 @@ use Rattle.ladder.specs.Bands.{Table, well_formed}
 use Rattle.ladder.specs.Ladder.{ladder}
 use Rattle.ladder.proofs.Laws.{ladder_laws}
 use Rattle.facts.specs.Lists.{holds}
-use Rattle.facts.proofs.Tests.{true_is_false}
+use Rattle.std.proofs.lemmas.Bool.{true≢false}
 use Rattle.limits.specs.declared.Percentage.{Percentage}
 use Rattle.limits.specs.Limits.{lower_limit, upper_limit, lower_limit_found, upper_limit_found}
 use Rattle.limits.proofs.Laws.{limit_laws}
@@ -33,8 +33,8 @@ Paired (Price a) (Price b) = a ≤ b
 pub paired : (low high : Reference) → bad_pair low high ≡ false → Paired low high
 unfolding Paired
 paired Missing Missing e = tt
-paired Missing (Price b) e = true_is_false e
-paired (Price a) Missing e = true_is_false e
+paired Missing (Price b) e = absurd (true≢false e)
+paired (Price a) Missing e = absurd (true≢false e)
 paired (Price a) (Price b) e = ltb-false b a e
 
 -- the least of two low ends and the greatest of two high ones are a pair again

@@ -1,7 +1,7 @@
 -- Document 01, "Off-System trades": "Six numbers of 4 bytes, in mils, handed over as numbers and not as a record: trade price, previous close, lowest
 -- bid, lowest ask, highest bid, highest ask of the day so far." Over any ladder l, the list of its prices, and any percentage. House reading: a trade
 -- price need not be on the ladder.
-use Rattle.std.specs.Prelude.{ℕ, Bool, cond, ◌||◌}
+use Rattle.std.specs.Prelude.{ℕ, Bool, cond, ◌||◌, Ok, Err}
 use Rattle.ladder.specs.Ladder.{Prices}
 use Rattle.limits.specs.declared.Percentage.{Percentage}
 use Rattle.limits.specs.Limits.{lower_limit_found, upper_limit_found}
@@ -10,8 +10,7 @@ use Rattle.questions.specs.Missing.{reference_of, least, greatest, price_or}
 use Rattle.questions.specs.Checks.{is_off, bad_pair}
 use Rattle.ranges.specs.declared.Range.{Range}
 use Rattle.ranges.specs.declared.Refusal.TheVariants.{OffLadder, Disagreement}
-use Rattle.ranges.specs.declared.Reading.{Reading}
-use Rattle.ranges.specs.declared.Reading.TheVariants.{Permitted, Refused}
+use Rattle.ranges.specs.Readings.{Reading}
 use Rattle.ranges.specs.Bounds.{from_reference, bottom, top}
 use Rattle.judging.specs.declared.Answer.{Answer}
 use Rattle.judging.specs.declared.Verdict.{Verdict}
@@ -59,9 +58,9 @@ trade_range l percent r = record { lowest = trade_lowest l percent r; highest = 
 -- checks 3 and 4, then the range
 unfoldable pub trade_reading : Prices → Percentage → TradeReferences → Reading
 trade_reading l percent r =
-    cond (any_trade_off l r) (Refused OffLadder)
-    (cond (trade_disagrees r) (Refused Disagreement)
-    (Permitted (trade_range l percent r)))
+    cond (any_trade_off l r) (Err OffLadder)
+    (cond (trade_disagrees r) (Err Disagreement)
+    (Ok (trade_range l percent r)))
 
 -- checks 6, 8 and 9: "A trade price need not be on the ladder."
 unfoldable pub trade_verdict : Prices → Range → ℕ → Verdict
@@ -73,9 +72,9 @@ trade_verdict l range p =
 
 -- the answer: "The outcome is the same three numbers as a question's."
 abbrev pub trade_by : Prices → Reading → ℕ → Answer
-trade_by l (Permitted range) p =
+trade_by l (Ok range) p =
     record { number = verdict_number (trade_verdict l range p); lowest = range.lowest; highest = range.highest }
-trade_by l (Refused refusal) p = refused_answer refusal
+trade_by l (Err refusal) p = refused_answer refusal
 
 unfoldable pub trade_judged : Prices → Percentage → ℕ → TradeReferences → Answer
 trade_judged l percent p r = trade_by l (trade_reading l percent r) p

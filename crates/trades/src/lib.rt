@@ -1,7 +1,7 @@
 // Off-System trades: six numbers, and an answer as a question's.
 //
-// The call of this file uses the Phase 1 table and 5 percent. Functions of `readings` and `verdicts` that are lent a table hold for
-// every well-formed one. Prices are whole mils.
+// The call of this file uses the Phase 1 table and 5 percent. Functions of `readings` and `verdicts` that take terms hold for every
+// well-formed table and any percentage. Prices are whole mils.
 #![tactic(auto)]
 
 pub mod readings; // readings.rt: the reading of a trade's references: its range, or why it has none
@@ -14,11 +14,11 @@ ghost use Rattle.limits.specs.Limits.{five_percent};
 ghost use Rattle.trades.specs.Trades.{trade_references_of, trade_judged};
 
 use judging::Answer;
-use limits::five_percent;
+use limits::terms::usual;
 use questions::Reference;
 
 // The references of a trade: the previous close, and the lowest and highest bid and ask of the day so far.
-#[derive(Clone, Copy)]
+#[derive(Clone, Copy, Debug, PartialEq, Eq)]
 pub struct TradeReferences {
     pub previous_close: Reference,
     pub lowest_bid: Reference,
@@ -38,7 +38,6 @@ pub fn judge_trade(
 ) -> Answer
     ensures { result ≡ trade_judged (ladder phase1) five_percent price (trade_references_of previous_close lowest_bid lowest_ask highest_bid highest_ask) }
 {
-    let table = ladder::table::phase_1();
     let references = readings::references_of(
         previous_close,
         lowest_bid,
@@ -46,5 +45,5 @@ pub fn judge_trade(
         highest_bid,
         highest_ask,
     );
-    verdicts::judge(&table, five_percent(), price, references)
+    verdicts::judge(&usual(), price, references)
 }

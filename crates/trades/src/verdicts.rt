@@ -1,18 +1,18 @@
 // The verdict on a trade price, and the answer.
-ghost use Rattle.std.specs.Prelude.{◌≡◌, T};
-ghost use Rattle.ladder.specs.Layout.{is_table, prices_of};
+ghost use Rattle.std.specs.Prelude.{◌≡◌};
+ghost use Rattle.ladder.specs.Layout.{prices_of};
 ghost use Rattle.trades.specs.Trades.{trade_verdict, trade_judged};
 
 use super::{TradeReferences, readings};
 use judging::verdicts::is_outside;
 use judging::{Answer, Verdict, answers};
-use limits::Percentage;
-use ranges::{Range, Reading};
+use ladder::table::SpreadTable;
+use limits::terms::Terms;
+use ranges::Range;
 
 // The verdict on a trade price: checks 6, 8 and 9. It need not be a ladder price, and the nine-fold rule is not for trades.
 #[tactic(auto, unfolding(crate::specs::Trades::trade_verdict))]
-pub fn verdict_on(table: &[u32], range: Range, price: u32) -> Verdict
-    requires { T (is_table table.now) }
+pub fn verdict_on(table: &SpreadTable, range: Range, price: u32) -> Verdict
     ensures { result ≡ trade_verdict (prices_of table.now) range price }
 {
     if is_outside(table, price) {
@@ -29,20 +29,14 @@ pub fn verdict_on(table: &[u32], range: Range, price: u32) -> Verdict
 
 // The answer to a trade.
 #[tactic(auto, unfolding(crate::specs::Trades::trade_judged))]
-pub fn judge(
-    table: &[u32],
-    percentage: Percentage,
-    price: u32,
-    references: TradeReferences,
-) -> Answer
-    requires { T (is_table table.now) }
-    ensures { result ≡ trade_judged (prices_of table.now) percentage price references }
+pub fn judge(terms: &Terms, price: u32, references: TradeReferences) -> Answer
+    ensures { result ≡ trade_judged (prices_of terms.now.table) terms.now.percentage price references }
 {
-    let reading = readings::reading_of(table, percentage, references);
-    let Reading::Permitted(range) = reading else {
-        return answers::refused(ranges::readings::refusal_of(reading));
+    let reading = readings::reading_of(terms, references);
+    let Ok(range) = reading else {
+        return answers::refused(reading.unwrap_err());
     };
-    let verdict = verdict_on(table, range, price);
+    let verdict = verdict_on(&terms.table, range, price);
     Answer {
         number: answers::verdict_number(verdict),
         lowest: range.lowest,

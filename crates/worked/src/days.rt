@@ -1,45 +1,33 @@
 // A day book, event by event, and orders that are filled from it, worked out by hand. Low(R) and High(R) stand beside each order.
-ghost use Rattle.std.specs.Prelude.{◌≡◌};
+ghost use Rattle.std.specs.Prelude.{◌≡◌, IfOk};
+ghost use Rattle.orders.specs.declared.TheConstants.{LIMIT};
 
 use super::reporting;
-use super::reporting::Report;
+use super::reporting::due;
 use daybook::{Day, Entered};
 use dayquestion::Order;
+use judging::Answer;
 use orders::{BUY, LIMIT, SELL};
 use questions::{Reference, encoding};
+use std::io;
 
 // The number that an event got, and the one that is due. The day goes on.
-fn told(report: &mut Report, event: &[u8], entered: Entered, due: u32) -> Day
-    ensures { result ≡ entered.day }
+fn told(rt: &impl Print, event: &str, entered: Entered, due: u32) -> io::Result<Day>
+    ensures { IfOk result (λ day. day ≡ entered.day) }
 {
-    reporting::number(report, event, entered.number, due);
-    entered.day
+    reporting::number(rt, event, entered.number, due)?;
+    Ok(entered.day)
 }
 
-// An order with this nominal price, filled from the day and judged.
-fn order(
-    report: &mut Report,
-    asked: &[u8],
-    day: Day,
-    order: Order,
-    number: u32,
-    lowest: u32,
-    highest: u32,
-) {
+// An order, filled from the day and judged.
+fn order(rt: &impl Print, asked: &str, day: Day, order: Order, due: Answer) -> io::Result<()> {
     let bytes = encoding::encode(dayquestion::question(day, order));
-    reporting::answer(
-        report,
-        asked,
-        order.price,
-        judging::judge(&bytes),
-        number,
-        lowest,
-        highest,
-    );
+    reporting::answer(rt, asked, order.price, judging::judge(&bytes), due)
 }
 
+// A limit order with this nominal price; 0 is none.
 fn limit(side: u8, price: u32, nominal: u32) -> Order
-    ensures { result ≡ record { side = side; order_type = 1; price = price; nominal = nominal } }
+    ensures { result ≡ record { side = side; order_type = LIMIT; price = price; nominal = nominal } }
 {
     Order {
         side,
@@ -50,97 +38,67 @@ fn limit(side: u8, price: u32, nominal: u32) -> Order
 }
 
 // Until there is a bid or an ask, the previous close: Low(20.40) is 19.38, and under nine times it is 183.50.
-pub(crate) fn opening(report: &mut Report) {
-    told(
-        report,
-        b"close 20.05",
-        Day::fresh(Reference::Price(20050)),
-        12,
-    );
-    let day = told(
-        report,
-        b"close 20.40",
-        Day::fresh(Reference::Price(20400)),
-        0,
-    );
+pub(crate) fn opening(rt: &impl Print) -> io::Result<()> {
+    told(rt, "close 20.05", Day::fresh(Reference::Price(20050)), 12)?;
+    let day = told(rt, "close 20.40", Day::fresh(Reference::Price(20400)), 0)?;
     order(
-        report,
-        b"opening, buy",
+        rt,
+        "opening, buy",
         day,
         limit(BUY, 20400, 0),
-        0,
-        19380,
-        183500,
-    );
+        due(0, 19380, 183500),
+    )?;
     let traded = told(
-        report,
-        b"trade 20.00 before any quote",
+        rt,
+        "trade 20.00 before any quote",
         day.system_trade(20000),
         0,
-    );
+    )?;
     order(
-        report,
-        b"opening still",
+        rt,
+        "opening still",
         traded,
         limit(BUY, 20400, 0),
-        0,
-        19380,
-        183500,
-    );
+        due(0, 19380, 183500),
+    )
 }
 
 // Bid and ask come and go, and a refused event changes nothing. Low(19.90) is 18.91; High(20.40) is 21.42, High(20.50) 21.52.
-pub(crate) fn quotes(report: &mut Report) {
-    let fresh = told(
-        report,
-        b"close 20.40",
-        Day::fresh(Reference::Price(20400)),
-        0,
-    );
-    let bid = told(report, b"bid 19.90", fresh.best_bid(19900), 0);
-    let both = told(report, b"ask 20.00", bid.best_ask(20000), 0);
-    let same = told(report, b"bid 20.00", both.best_bid(20000), 13);
+pub(crate) fn quotes(rt: &impl Print) -> io::Result<()> {
+    let fresh = told(rt, "close 20.40", Day::fresh(Reference::Price(20400)), 0)?;
+    let bid = told(rt, "bid 19.90", fresh.best_bid(19900), 0)?;
+    let both = told(rt, "ask 20.00", bid.best_ask(20000), 0)?;
+    let same = told(rt, "bid 20.00", both.best_bid(20000), 13)?;
     order(
-        report,
-        b"bid 19.90, ask 20.00, buy",
+        rt,
+        "bid 19.90, ask 20.00, buy",
         same,
         limit(BUY, 18910, 0),
-        0,
-        18910,
-        20000,
-    );
-    told(report, b"kind 6", same.enter(6, 0), 11);
-    told(
-        report,
-        b"buy queue empty at 19.90",
-        same.enter(3, 19900),
-        11,
-    );
-    told(report, b"trade 20.01", same.enter(5, 20010), 12);
-    let bid_only = told(report, b"sell queue empty", same.sell_queue_empty(), 0);
+        due(0, 18910, 20000),
+    )?;
+    told(rt, "kind 6", same.enter(6, 0), 11)?;
+    told(rt, "buy queue empty at 19.90", same.enter(3, 19900), 11)?;
+    told(rt, "trade 20.01", same.enter(5, 20010), 12)?;
+    let bid_only = told(rt, "sell queue empty", same.sell_queue_empty(), 0)?;
     order(
-        report,
-        b"bid 19.90, sell",
+        rt,
+        "bid 19.90, sell",
         bid_only,
         limit(SELL, 21500, 20000),
-        9,
-        19900,
-        21420,
-    );
+        due(9, 19900, 21420),
+    )?;
     let over = told(
-        report,
-        b"bid 20.50, over the last ask",
+        rt,
+        "bid 20.50, over the last ask",
         bid_only.best_bid(20500),
         0,
-    );
-    let neither = told(report, b"buy queue empty", over.buy_queue_empty(), 0);
+    )?;
+    let neither = told(rt, "buy queue empty", over.buy_queue_empty(), 0)?;
     order(
-        report,
-        b"neither, sell",
+        rt,
+        "neither, sell",
         neither,
         limit(SELL, 21500, 20000),
-        0,
-        2230,
-        21520,
-    );
+        due(0, 2230, 21520),
+    )
 }

@@ -1,242 +1,205 @@
 // Lines beyond those of document 01, worked out by hand from its rules. Low(R) and High(R) stand beside each.
 use super::reporting;
-use super::reporting::Report;
+use super::reporting::due;
 use orders::{
     BOTH, BUY, BUY_ONLY, ENHANCED, LIMIT, NEITHER, OPENING, Order, SELL, SELL_ONLY, SPECIAL,
 };
+use std::io;
 use trades::judge_trade;
 
 // By the previous close, also for the nine-fold rule: Low(1.00) is 0.76, High(1.00) 1.24. Without one the nominal does not step in.
-pub(crate) fn opening(report: &mut Report) {
+pub(crate) fn opening(rt: &impl Print) -> io::Result<()> {
     let buy = Order::new(BUY, LIMIT, OPENING).close(1000);
-    reporting::order(report, b"opening buy, close 1.00", buy, 760, 0, 760, 8990);
-    reporting::order(report, b"opening buy, close 1.00", buy, 9000, 10, 760, 8990);
+    reporting::order(rt, "opening buy, close 1.00", buy, 760, due(0, 760, 8990))?;
+    reporting::order(rt, "opening buy, close 1.00", buy, 9000, due(10, 760, 8990))?;
     let sell = Order::new(SELL, LIMIT, OPENING).close(1000);
     reporting::order(
-        report,
-        b"opening sell, close 1.00",
+        rt,
+        "opening sell, close 1.00",
         sell,
         1240,
-        0,
-        112,
-        1240,
-    );
+        due(0, 112, 1240),
+    )?;
     reporting::order(
-        report,
-        b"opening sell, close 1.00",
+        rt,
+        "opening sell, close 1.00",
         sell,
         111,
-        10,
-        112,
-        1240,
-    );
+        due(10, 112, 1240),
+    )?;
     let nominal = Order::new(BUY, LIMIT, OPENING).nominal(1000);
     reporting::order(
-        report,
-        b"opening buy, nominal 1.00",
+        rt,
+        "opening buy, nominal 1.00",
         nominal,
         9000,
-        0,
-        10,
-        9995000,
-    );
+        due(0, 10, 9995000),
+    )
 }
 
 // The last ask joins only where there is a close or a day low; the last bid never does for a buy. Low(2.50) is 2.26, Low(2.00) 1.76,
 // Low(2.80) 2.56, High(2.80) 3.04.
-pub(crate) fn neither(report: &mut Report) {
+pub(crate) fn neither(rt: &impl Print) -> io::Result<()> {
     let buy = Order::new(BUY, LIMIT, NEITHER).close(2500);
     reporting::order(
-        report,
-        b"neither, buy, close 2.50",
+        rt,
+        "neither, buy, close 2.50",
         buy,
         2260,
-        0,
-        2260,
-        9995000,
-    );
+        due(0, 2260, 9995000),
+    )?;
     reporting::order(
-        report,
-        b"and last ask 2.00",
+        rt,
+        "and last ask 2.00",
         buy.last_quotes(0, 2000),
         1760,
-        0,
-        1760,
-        9995000,
-    );
+        due(0, 1760, 9995000),
+    )?;
     reporting::order(
-        report,
-        b"and last bid 0.010",
+        rt,
+        "and last bid 0.010",
         buy.last_quotes(10, 0),
         2260,
-        0,
-        2260,
-        9995000,
-    );
+        due(0, 2260, 9995000),
+    )?;
     let day = Order::new(BUY, LIMIT, NEITHER).day(2800, 2800);
     reporting::order(
-        report,
-        b"neither, buy, day 2.80",
+        rt,
+        "neither, buy, day 2.80",
         day,
         2560,
-        0,
-        2560,
-        9995000,
-    );
+        due(0, 2560, 9995000),
+    )?;
     let sell = Order::new(SELL, LIMIT, NEITHER).last_quotes(2800, 0);
     reporting::order(
-        report,
-        b"neither, sell, last bid 2.80",
+        rt,
+        "neither, sell, last bid 2.80",
         sell,
         9995000,
-        0,
-        10,
-        9995000,
-    );
+        due(0, 10, 9995000),
+    )?;
     reporting::order(
-        report,
-        b"and close 2.50",
+        rt,
+        "and close 2.50",
         sell.close(2500),
         3040,
-        0,
-        10,
-        3040,
-    );
+        due(0, 10, 3040),
+    )
 }
 
 // The greatest of bid, close and day high, 1.20: High is 1.44; nine spreads below 1.00 are 0.91. The least of ask, close and day low,
 // 0.90: Low is 0.66; nine spreads above 1.00 are 1.09.
-pub(crate) fn one_queue(report: &mut Report) {
+pub(crate) fn one_queue(rt: &impl Print) -> io::Result<()> {
     let sell = Order::new(SELL, ENHANCED, BUY_ONLY)
         .quotes(1000, 0)
         .close(1100)
         .day(900, 1200);
-    reporting::order(report, b"buy only, enhanced sell", sell, 910, 0, 910, 1440);
-    reporting::order(report, b"buy only, enhanced sell", sell, 1450, 9, 910, 1440);
+    reporting::order(rt, "buy only, enhanced sell", sell, 910, due(0, 910, 1440))?;
+    reporting::order(rt, "buy only, enhanced sell", sell, 1450, due(9, 910, 1440))?;
     let buy = Order::new(BUY, ENHANCED, SELL_ONLY)
         .quotes(0, 1000)
         .close(1100)
         .day(900, 1200);
-    reporting::order(report, b"sell only, enhanced buy", buy, 660, 0, 660, 1090);
-    reporting::order(report, b"sell only, enhanced buy", buy, 1100, 9, 660, 1090);
+    reporting::order(rt, "sell only, enhanced buy", buy, 660, due(0, 660, 1090))?;
+    reporting::order(rt, "sell only, enhanced buy", buy, 1100, due(9, 660, 1090))
 }
 
 // From the opposite quote to the end of the ladder.
-pub(crate) fn special(report: &mut Report) {
+pub(crate) fn special(rt: &impl Print) -> io::Result<()> {
     let buy = Order::new(BUY, SPECIAL, BOTH).quotes(19890, 19900);
-    reporting::order(report, b"special buy", buy, 19900, 0, 19900, 9995000);
-    reporting::order(report, b"special buy", buy, 19890, 8, 19900, 9995000);
+    reporting::order(rt, "special buy", buy, 19900, due(0, 19900, 9995000))?;
+    reporting::order(rt, "special buy", buy, 19890, due(8, 19900, 9995000))?;
     let sell = Order::new(SELL, SPECIAL, BOTH).quotes(19890, 19900);
-    reporting::order(report, b"special sell", sell, 19890, 0, 10, 19890);
-    reporting::order(report, b"special sell", sell, 19900, 9, 10, 19890);
+    reporting::order(rt, "special sell", sell, 19890, due(0, 10, 19890))?;
+    reporting::order(rt, "special sell", sell, 19900, due(9, 10, 19890))
 }
 
 // Under nine times 19.90, which is 179.10: 179.00. Over a ninth of 0.90, which is 0.100: 0.101.
-pub(crate) fn nine_fold(report: &mut Report) {
+pub(crate) fn nine_fold(rt: &impl Print) -> io::Result<()> {
     let special = Order::new(BUY, SPECIAL, SELL_ONLY)
         .quotes(0, 19900)
         .nominal(19900);
     reporting::order(
-        report,
-        b"special buy, nominal 19.90",
+        rt,
+        "special buy, nominal 19.90",
         special,
         179000,
-        0,
-        19900,
-        179000,
-    );
+        due(0, 19900, 179000),
+    )?;
     reporting::order(
-        report,
-        b"special buy, nominal 19.90",
+        rt,
+        "special buy, nominal 19.90",
         special,
         179100,
-        10,
-        19900,
-        179000,
-    );
+        due(10, 19900, 179000),
+    )?;
     let sell = Order::new(SELL, LIMIT, SELL_ONLY)
         .quotes(0, 1000)
         .nominal(900);
-    reporting::order(report, b"sell only, nominal 0.90", sell, 101, 0, 101, 1240);
-    reporting::order(report, b"sell only, nominal 0.90", sell, 100, 10, 101, 1240);
+    reporting::order(rt, "sell only, nominal 0.90", sell, 101, due(0, 101, 1240))?;
+    reporting::order(rt, "sell only, nominal 0.90", sell, 100, due(10, 101, 1240))
 }
 
 // Numbers 2 to 5, which show no range.
-pub(crate) fn refused(report: &mut Report) {
+pub(crate) fn refused(rt: &impl Print) -> io::Result<()> {
     reporting::order(
-        report,
-        b"side 3",
+        rt,
+        "side 3",
         Order::new(3, LIMIT, NEITHER),
         1000,
-        2,
-        0,
-        0,
-    );
+        due(2, 0, 0),
+    )?;
     reporting::order(
-        report,
-        b"opening, nominal 0.251",
+        rt,
+        "opening, nominal 0.251",
         Order::new(BUY, LIMIT, OPENING).nominal(251),
         1000,
-        3,
-        0,
-        0,
-    );
+        due(3, 0, 0),
+    )?;
     reporting::order(
-        report,
-        b"opening, a last bid",
+        rt,
+        "opening, a last bid",
         Order::new(BUY, LIMIT, OPENING).last_quotes(1000, 0),
         1000,
-        4,
-        0,
-        0,
-    );
+        due(4, 0, 0),
+    )?;
     reporting::order(
-        report,
-        b"bid and ask the same",
+        rt,
+        "bid and ask the same",
         Order::new(BUY, LIMIT, BOTH).quotes(1000, 1000),
         1000,
-        4,
-        0,
-        0,
-    );
+        due(4, 0, 0),
+    )?;
     reporting::order(
-        report,
-        b"special buy, no ask",
+        rt,
+        "special buy, no ask",
         Order::new(BUY, SPECIAL, BUY_ONLY).quotes(1000, 0),
         1000,
-        5,
-        0,
-        0,
-    );
+        due(5, 0, 0),
+    )
 }
 
 // High(0.034) is 0.058. Where all are missing the range is the whole ladder.
-pub(crate) fn trades(report: &mut Report) {
+pub(crate) fn trades(rt: &impl Print) -> io::Result<()> {
     reporting::answer(
-        report,
-        b"trade, bids 9.60 to 10.30",
+        rt,
+        "trade, bids 9.60 to 10.30",
         9601,
         judge_trade(9601, 0, 9600, 0, 10300, 0),
-        0,
-        9600,
-        10300,
-    );
+        due(0, 9600, 10300),
+    )?;
     reporting::answer(
-        report,
-        b"trade, close 0.034",
+        rt,
+        "trade, close 0.034",
         59,
         judge_trade(59, 34, 0, 0, 0, 0),
-        9,
-        10,
-        58,
-    );
+        due(9, 10, 58),
+    )?;
     reporting::answer(
-        report,
-        b"trade, all missing",
+        rt,
+        "trade, all missing",
         0,
         judge_trade(0, 0, 0, 0, 0, 0),
-        6,
-        10,
-        9995000,
-    );
+        due(6, 10, 9995000),
+    )
 }

@@ -1,4 +1,5 @@
 -- Rounding and spreads on a rising list, told by neighbours and ends. No bands here.
+use Rattle.std.specs.Prelude.{Some, None}
 use mathlib.Core.Path.{◌≡◌, refl, ap}
 use Prim.Native.Nat.{ℕ, zero, suc, ◌+◌, ◌*◌, ◌≤◌, ◌<◌}
 use native.Mathlib.Nat.{zero-add, suc-add, mul-le-mul_left}
@@ -6,7 +7,6 @@ use native.Mathlib.Decide.{dec_le}
 use native.Mathlib.Omega.{arith}
 use mathlib.Core.List.{List}
 use lib.Dec.{T, lt→ltb, ltb→lt, le→leb, leb→le}
-use Rattle.ladder.specs.declared.Found.TheVariants.{Price, Nothing}
 use Rattle.facts.specs.Lists.{holds, Rising}
 use Rattle.ladder.specs.Search.{first, latest, or_else, above, below, at_least, at_most}
 use Rattle.ladder.specs.Places.{first_price, last_price}
@@ -18,7 +18,7 @@ use Rattle.ladder.proofs.Lists.Extremes.{first_is, latest_is, first_none, latest
 -- ---- a threshold between two neighbours
 
 module _ (l : List ℕ) (r : Rising l) (p q : ℕ) (n : Next l p q) (scale y : ℕ) (low : scale * p ≤ y) (high : y < scale * q) where
-  pub between_below : latest (at_most scale y) l ≡ Price p
+  pub between_below : latest (at_most scale y) l ≡ Some p
   between_below =
       latest_is l r (at_most scale y) p
       (record { on = n.lower; passes = le→leb (scale * p) y low; extreme = λ x h t. gap_down l p q n x h (less x (leb→le (scale * x) y t)) })
@@ -30,7 +30,7 @@ module _ (l : List ℕ) (r : Rising l) (p q : ℕ) (n : Next l p q) (scale y : �
           go (yes u) = omega (arith, mul-le-mul_left scale u)
           go (no u) = omega arith
 
-  pub between_above : first (at_least scale (y + 1)) l ≡ Price q
+  pub between_above : first (at_least scale (y + 1)) l ≡ Some q
   between_above =
       first_is l r (at_least scale (y + 1)) q
       (record { on = n.upper; passes = le→leb (y + 1) (scale * q) (omega arith); extreme = λ x h t. n.gap x h (more x (leb→le (y + 1) (scale * x) t)) })
@@ -45,20 +45,20 @@ module _ (l : List ℕ) (r : Rising l) (p q : ℕ) (n : Next l p q) (scale y : �
 -- ---- a threshold at the ends of a list that is not empty: x is a member
 
 module _ (l : List ℕ) (r : Rising l) (x : ℕ) (on : T (holds x l)) (scale y : ℕ) where
-  pub all_at_least : y ≤ scale * first_price l → first (at_least scale y) l ≡ Price (first_price l)
+  pub all_at_least : y ≤ scale * first_price l → first (at_least scale y) l ≡ Some (first_price l)
   all_at_least h =
       first_is l r (at_least scale y) (first_price l)
       (record { on = first_held l x on; passes = le→leb y (scale * first_price l) h; extreme = λ q m t. over_first l r q m })
 
-  pub none_at_least : scale * last_price l < y → first (at_least scale y) l ≡ Nothing
+  pub none_at_least : scale * last_price l < y → first (at_least scale y) l ≡ None
   none_at_least h = first_none l r (at_least scale y) (λ q m t. omega (arith, leb→le y (scale * q) t, mul-le-mul_left scale (under_last l r q m)))
 
-  pub all_at_most : scale * last_price l ≤ y → latest (at_most scale y) l ≡ Price (last_price l)
+  pub all_at_most : scale * last_price l ≤ y → latest (at_most scale y) l ≡ Some (last_price l)
   all_at_most h =
       latest_is l r (at_most scale y) (last_price l)
       (record { on = last_held l x on; passes = le→leb (scale * last_price l) y h; extreme = λ q m t. under_last l r q m })
 
-  pub none_at_most : y < scale * first_price l → latest (at_most scale y) l ≡ Nothing
+  pub none_at_most : y < scale * first_price l → latest (at_most scale y) l ≡ None
   none_at_most h = latest_none l r (at_most scale y) (λ q m t. omega (arith, leb→le (scale * q) y t, mul-le-mul_left scale (over_first l r q m)))
 
 -- ---- single spreads

@@ -1,34 +1,33 @@
 -- Spreads and rounding keep order, on any rising list.
+use Rattle.std.specs.Prelude.{Option, Some, None}
 use Prim.Native.Nat.{ℕ, zero, suc, ◌*◌, ◌≤◌, ◌<◌}
 use native.Mathlib.Nat.{le_refl, le_trans, le_of_lt, eq-or-lt_of_le}
 use mathlib.Core.Bool.{Bool}
 use mathlib.Core.Logic.{⊎_elim}
 use mathlib.Core.List.{List}
 use lib.Dec.{T, ltb→lt, lt→ltb, leb→le, le→leb}
-use Rattle.ladder.specs.declared.Found.{Found}
-use Rattle.ladder.specs.declared.Found.TheVariants.{Price, Nothing}
 use Rattle.facts.specs.Lists.{holds, Rising}
 use Rattle.ladder.specs.Search.{first, latest, or_else, above, below, at_least, at_most}
 use Rattle.ladder.specs.Places.{first_price, last_price}
 use Rattle.ladder.specs.Spreads.{spread_up, spread_down, times}
 use Rattle.ladder.proofs.Lists.Ends.{over_first, under_last}
 use Rattle.ladder.specs.Laws.{Least, Greatest}
-use Rattle.ladder.proofs.Lists.Extremes.{Best, None, Result, first_result, latest_result}
+use Rattle.ladder.proofs.Lists.Extremes.{Best, NonePass, FoundIs, first_result, latest_result}
 
 -- what is shown of all that a search may find, and of what stands in where it finds nothing, holds of the outcome
-found : (R : ℕ → ℕ → Type 0) (test : ℕ → Bool) (l : List ℕ) (other : ℕ) (P : ℕ → Type 0) (f : Found) → Result R test l f →
-    ((q : ℕ) → Best R test l q → P q) → (None test l → P other) → P (or_else other f)
-found R test l other P (Price q) b yet never = yet q b
-found R test l other P Nothing b yet never = never b
+found : (R : ℕ → ℕ → Type 0) (test : ℕ → Bool) (l : List ℕ) (other : ℕ) (P : ℕ → Type 0) (f : Option ℕ) → FoundIs R test l f →
+    ((q : ℕ) → Best R test l q → P q) → (NonePass test l → P other) → P (or_else other f)
+found R test l other P (Some q) b yet never = yet q b
+found R test l other P None b yet never = never b
 
 -- ---- single spreads
 
 module _ (l : List ℕ) (r : Rising l) (p : ℕ) (P : ℕ → Type 0) where
-  pub up_by : ((q : ℕ) → Best Least (above p) l q → P q) → (None (above p) l → P p) → P (spread_up l p)
+  pub up_by : ((q : ℕ) → Best Least (above p) l q → P q) → (NonePass (above p) l → P p) → P (spread_up l p)
   unfolding spread_up
   up_by = found Least (above p) l p P (first (above p) l) (first_result (above p) l r)
 
-  pub down_by : ((q : ℕ) → Best Greatest (below p) l q → P q) → (None (below p) l → P p) → P (spread_down l p)
+  pub down_by : ((q : ℕ) → Best Greatest (below p) l q → P q) → (NonePass (below p) l → P p) → P (spread_down l p)
   unfolding spread_down
   down_by = found Greatest (below p) l p P (latest (below p) l) (latest_result (below p) l r)
 
@@ -91,7 +90,7 @@ spreads_down_order l r = times_order l (spread_down l) (down_on l r) (down_order
 -- ---- rounding: a test that passes more finds something as extreme, where `end` stands in for nothing
 
 wider : (R : ℕ → ℕ → Type 0) → ((x : ℕ) → R x x) → (l : List ℕ) (end : ℕ) → ((x : ℕ) → T (holds x l) → R x end) →
-    (wide narrow : ℕ → Bool) → ((x : ℕ) → T (narrow x) → T (wide x)) → (f g : Found) → Result R wide l f → Result R narrow l g →
+    (wide narrow : ℕ → Bool) → ((x : ℕ) → T (narrow x) → T (wide x)) → (f g : Option ℕ) → FoundIs R wide l f → FoundIs R narrow l g →
     R (or_else end f) (or_else end g)
 wider R reflexive l end bound wide narrow sub f g r s =
     found R narrow l end (λ q. R (or_else end f) q) g s

@@ -1,4 +1,5 @@
 -- How the bands of a well-formed table make its ladder: entry k of a band is its bottom and k spreads, and the list rises.
+use Rattle.std.specs.Prelude.{Some, None}
 use mathlib.Core.Path.{◌≡◌, refl, ap, sym, ◌∙◌}
 use Prim.Native.Nat.{ℕ, zero, suc, ◌+◌, ◌-◌, ◌*◌, ◌%◌, ◌≤◌, ◌<◌}
 use native.Mathlib.Nat.{lt_irrefl, suc_inj, le-mul_of_pos_right, not-suc-le-zero, le_of_suc-le-suc, div-add-mod'}
@@ -6,9 +7,10 @@ use native.Mathlib.Omega.{arith}
 use mathlib.Core.Bool.{◌&&◌}
 use mathlib.Core.List.{List, [], ◌∷◌, ◌++◌}
 use lib.Dec.{T, eqb, ltb, ltb→lt, eqb→eq}
-use lib.ListN.{length, get_or}
+use lib.ListN.{length, get_or, take, drop}
+use Rattle.std.proofs.lemmas.List.{take_rest, get_or-take, get_or-drop, length-take, length-drop, length_push, same_from_push, take_more}
+use Rattle.std.specs.List.{push}
 use Rattle.ladder.specs.declared.Band.{Band}
-use Rattle.ladder.specs.declared.Found.TheVariants.{Price, Nothing}
 use Rattle.ladder.specs.Bands.{no_band, whole, chained}
 use Rattle.ladder.specs.Ladder.{width, rungs, band_prices}
 use Rattle.ladder.specs.Arithmetic.{places_below}
@@ -20,6 +22,30 @@ use Rattle.facts.proofs.Lists.{held_cases, held_none}
 -- band k of a table
 abbrev pub band_at : List Band → ℕ → Band
 band_at t k = get_or t k no_band
+
+-- band k of the first n, and of all
+pub first_under : (t : List Band) (n k : ℕ) → k < length (take n t) → k < length t
+first_under t n k h = omega (arith, length-take n t)
+
+pub first_band : (t : List Band) (n k : ℕ) → k < length (take n t) → get_or (take n t) k no_band ≡ band_at t k
+first_band t n k h = get_or-take n t k no_band (omega (arith, length-take n t))
+
+-- band j of those from an index on, and how many they are: a slice is lent as the code cuts it
+pub rest_band : (t : List Band) (i j : ℕ) → get_or (take (length t - i) (drop i t)) j no_band ≡ band_at t (i + j)
+rest_band t i j = rw (take_rest t i) (get_or-drop i t j no_band)
+
+pub rest_length : (t : List Band) (i : ℕ) → length (take (length t - i) (drop i t)) ≡ length t - i
+rest_length t i = rw (take_rest t i) (length-drop i t)
+
+-- the last of the bands that are left: the rest of them, and where it stands in the table
+pub last_band : (t l rest : List Band) (b : Band) → l ≡ take (length l) t → length l ≤ length t → l ≡ push rest b →
+    (length l ≡ length rest + 1) × (rest ≡ take (length rest) t) × (b ≡ band_at t (length rest)) × (length rest < length t)
+last_band t l rest b are few e =
+    let n : length l ≡ length rest + 1 = ap length e ∙ length_push rest b in
+    let h : length rest < length t = omega arith in
+    let same = same_from_push rest (take (length rest) t) b (band_at t (length rest))
+    (sym e ∙ (are ∙ (ap (λ m. take m t) n ∙ take_more t (length rest) no_band h))) in
+    (n, same.0, same.1, h)
 
 -- ---- well-formed, as facts
 
@@ -59,11 +85,11 @@ chain_facts a (b ∷ bs) t =
 -- ---- one band of the list
 
 -- entry i of a band
-pub rungs_entry : (s a w : ℕ) (r : List ℕ) (i : ℕ) → i ≤ w → price_at i (a ∷ (rungs s a w ++ r)) ≡ Price (i * s + a)
+pub rungs_entry : (s a w : ℕ) (r : List ℕ) (i : ℕ) → i ≤ w → price_at i (a ∷ (rungs s a w ++ r)) ≡ Some (i * s + a)
 unfolding rungs price_at
-rungs_entry s a w r zero h = ap Price (omega arith)
+rungs_entry s a w r zero h = ap Some (omega arith)
 rungs_entry s a zero r (suc i) h = absurd (not-suc-le-zero h)
-rungs_entry s a (suc w) r (suc i) h = rungs_entry s (a + s) w r i (le_of_suc-le-suc h) ∙ ap Price (omega arith)
+rungs_entry s a (suc w) r (suc i) h = rungs_entry s (a + s) w r i (le_of_suc-le-suc h) ∙ ap Some (omega arith)
 
 -- past a band the list goes on from its top
 pub rungs_past : (s a w : ℕ) (r : List ℕ) (top m k : ℕ) → top ≡ w * s + a → k ≡ w + m →
@@ -81,7 +107,7 @@ rungs_past s a (suc w) r top m k e f =
 
 -- entry i of band k
 pub band_entry : (a : ℕ) (t : List Band) → Chain a t → (k i j : ℕ) → k < length t → i ≤ width (band_at t k) → j ≡ places_below k t + i →
-    price_at j (a ∷ band_prices t) ≡ Price (i * (band_at t k).spread + (band_at t k).bottom)
+    price_at j (a ∷ band_prices t) ≡ Some (i * (band_at t k).spread + (band_at t k).bottom)
 unfolding band_prices places_below
 band_entry a [] c k i j h w e = absurd (not-suc-le-zero h)
 band_entry a (b ∷ bs) c zero i j h w e =
@@ -128,7 +154,7 @@ last_top a (b ∷ d ∷ bs) c (suc k) e =
 
 -- past the last place the list has nothing
 pub past_last : (a : ℕ) (t : List Band) → Chain a t → (m j : ℕ) → j ≡ places_below (length t) t + suc m →
-    price_at j (a ∷ band_prices t) ≡ Nothing
+    price_at j (a ∷ band_prices t) ≡ None
 unfolding band_prices places_below price_at
 past_last a [] c m j e = let i : j ≡ suc m = omega arith in rw i
 past_last a (b ∷ bs) c m j e =

@@ -1,6 +1,7 @@
 -- Places counted band by band.
+use Rattle.std.specs.Prelude.{Some, None}
 use mathlib.Core.Path.{◌≡◌, ap, sym, ◌∙◌}
-use Prim.Native.Nat.{ℕ, ◌+◌, ◌-◌, ◌*◌, ◌/◌, ◌%◌, ◌≤◌, ◌<◌}
+use Prim.Native.Nat.{ℕ, suc, ◌+◌, ◌-◌, ◌*◌, ◌/◌, ◌%◌, ◌≤◌, ◌<◌}
 use native.Mathlib.Nat.{div-le_self, div-eq_of_eq-mul_left, le-mul_of_pos_right, le_of_mul-le-mul_right, lt_of_mul-lt-mul_right}
 use native.Mathlib.Numerals.{add-one}
 use native.Mathlib.Omega.{arith}
@@ -8,8 +9,6 @@ use mathlib.Core.List.{List}
 use lib.Dec.{T}
 use lib.ListN.{length}
 use Rattle.ladder.specs.declared.Band.{Band}
-use Rattle.ladder.specs.declared.Found.TheVariants.{Price, Nothing}
-use Rattle.ladder.specs.declared.Place.TheVariants.{At}
 use Rattle.ladder.specs.Bands.{well_formed}
 use Rattle.ladder.specs.Ladder.{width, ladder}
 use Rattle.ladder.specs.Arithmetic.{places_below}
@@ -39,18 +38,11 @@ module _ (t : List Band) (wf : T (well_formed t)) (k : ℕ) (h : k < length t) (
 
   -- the price at a place of the band, and past the last band
   pub price_here : (i : ℕ) → i * b.spread ≤ b.top - b.bottom →
-      Price (b.bottom + i * b.spread) ≡ price_at (places_below k t + i) (ladder t)
+      Some (b.bottom + i * b.spread) ≡ price_at (places_below k t + i) (ladder t)
   price_here i m =
       let within : i ≤ width b = le_of_mul-le-mul_right (omega (arith, w.divides, w.rises)) w.spreads in
       let same : i * b.spread + b.bottom ≡ b.bottom + i * b.spread = omega arith in
-      sym (band_entry_at t wf k h b f i within ∙ ap Price same)
-
-  pub price_past : k + 1 ≡ length t → (i : ℕ) → b.top - b.bottom < i * b.spread → Nothing ≡ price_at (places_below k t + i) (ladder t)
-  price_past e i m =
-      let facts = table_facts t wf in
-      let over = places_past i m in
-      let all : places_below (length t) t ≡ places_below k t + width b = rw (← e) places_more in
-      rw facts.list (sym (past_last (start t) t facts.chain (i - width b - 1) (places_below k t + i) (omega arith)))
+      sym (band_entry_at t wf k h b f i within ∙ ap Some same)
 
   -- the place of a price of the band
   module _ (p : ℕ) (on : StandsIn t k p) where
@@ -66,15 +58,22 @@ module _ (t : List Band) (wf : T (well_formed t)) (k : ℕ) (h : k < length t) (
     pub place_fits : places_below k t + (p - b.bottom) / b.spread ≤ p
     place_fits = omega (arith, below, div-le_self (p - b.bottom) b.spread, low)
 
-    pub place_here : At (places_below k t + (p - b.bottom) / b.spread) ≡ place_of p (ladder t)
+    pub place_here : Some (places_below k t + (p - b.bottom) / b.spread) ≡ place_of p (ladder t)
     place_here = go (index_of b p w low high multiple)
       where
-        go : Index b p → At (places_below k t + (p - b.bottom) / b.spread) ≡ place_of p (ladder t)
+        go : Index b p → Some (places_below k t + (p - b.bottom) / b.spread) ≡ place_of p (ladder t)
         go x =
             let index : (p - b.bottom) / b.spread ≡ x.i = div-eq_of_eq-mul_left w.spreads (omega (arith, x.is)) in
             let zero : 0 + (places_below k t + x.i) ≡ places_below k t + x.i = omega arith in
             rw index
             (sym
             (place_of_entry (ladder t) (ladder_rises t wf) 0 (places_below k t + x.i) p
-            (band_entry_at t wf k h b f x.i x.within ∙ ap Price (sym x.is)) ∙
-            ap At zero))
+            (band_entry_at t wf k h b f x.i x.within ∙ ap Some (sym x.is)) ∙
+            ap Some zero))
+
+-- past the last band there is no price
+pub price_past : (t : List Band) → T (well_formed t) → (k : ℕ) → k ≡ length t → (i : ℕ) → 0 < i → None ≡ price_at (places_below k t + i) (ladder t)
+price_past t wf k e i more =
+    let facts = table_facts t wf in
+    let last : i ≡ suc (i - 1) = omega arith in
+    rw (e, facts.list) (sym (past_last (start t) t facts.chain (i - 1) (places_below (length t) t + i) (ap (λ m. places_below (length t) t + m) last)))

@@ -1,4 +1,5 @@
 -- Rounding by one division: a threshold inside the ladder falls between two neighbours of the band where it lands.
+use Rattle.std.specs.Prelude.{Some}
 use mathlib.Core.Path.{◌≡◌, ap, sym, ◌∙◌}
 use Prim.Native.Nat.{ℕ, suc, ◌+◌, ◌-◌, ◌*◌, ◌/◌, ◌%◌, ◌≤◌, ◌<◌}
 use native.Mathlib.Nat.{div-add-mod', mod-lt, mul-pos, zero-mul, eq-zero-or-pos, mul-le-mul_right, le-mul_of_pos_right, lt_of_mul-lt-mul_right}
@@ -8,7 +9,6 @@ use mathlib.Core.List.{List}
 use lib.Dec.{T}
 use lib.ListN.{length}
 use Rattle.ladder.specs.declared.Band.{Band}
-use Rattle.ladder.specs.declared.Found.TheVariants.{Price}
 use Rattle.ladder.specs.Bands.{well_formed}
 use Rattle.ladder.specs.Ladder.{width, ladder}
 use Rattle.ladder.specs.Search.{first, at_least}
@@ -79,8 +79,8 @@ module _ (t : List Band) (wf : T (well_formed t)) (scale y : ℕ) (low : scale *
           let above : y - 1 < scale * (suc spreads * b.spread + b.bottom) = omega (arith, whole, part, starts_below) in
           let back : y - 1 + 1 ≡ y = omega arith in
           record {
-            is_below = between_below (ladder t) (ladder_rises t wf) _ _ n scale (y - 1) under above ∙ ap Price up;
+            is_below = between_below (ladder t) (ladder_rises t wf) _ _ n scale (y - 1) under above ∙ ap Some up;
             is_above =
                 ap (λ z. first (at_least scale z) (ladder t)) (sym back) ∙
-                (between_above (ladder t) (ladder_rises t wf) _ _ n scale (y - 1) under above ∙ ap Price over);
+                (between_above (ladder t) (ladder_rises t wf) _ _ n scale (y - 1) under above ∙ ap Some over);
           }

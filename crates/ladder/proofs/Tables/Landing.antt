@@ -6,27 +6,59 @@ use native.Mathlib.Omega.{arith}
 use mathlib.Core.Bool.{Bool, true, false, cond}
 use mathlib.Core.Logic.{◌⊎◌, inl, inr, ⊎_elim}
 use mathlib.Core.List.{List, [], ◌∷◌}
-use lib.Dec.{ltb}
-use lib.ListN.{length, drop, drop_of_length-le}
-use lib.Seq.{drop-cons}
-use borrow.Author.Tests.{ltb-true, ltb-false, lt-ltb, le-ltb}
+use lib.Dec.{ltb, leb}
+use lib.ListN.{length, take, drop}
+use borrow.Author.Tests.{ltb-true, ltb-false, le-ltb, le-leb, lt-leb}
+use Rattle.std.specs.Prelude.{Some, None}
+use Rattle.std.specs.List.{position_or_len}
+use Rattle.std.proofs.lemmas.List.{length-take-le}
+use Rattle.std.proofs.lemmas.List.Recursion.{is_count_by}
+use Rattle.std.proofs.lemmas.Option.{cond_some, none-some}
 use Rattle.ladder.specs.declared.Band.{Band}
-use Rattle.ladder.specs.Bands.{no_band}
 use Rattle.ladder.specs.Ladder.{band_prices}
 use Rattle.ladder.specs.Places.{last_after}
-use Rattle.ladder.specs.Arithmetic.{bands_below, count_below}
+use Rattle.ladder.specs.Arithmetic.{bands_below, first_from, count_below}
 use Rattle.ladder.proofs.Tables.Chain.{Chain, band_at, last_top}
 
 -- ---- the search, band by band
 
-module _ (scale y : ℕ) (t : List Band) (k : ℕ) where
-  pub stops : k < length t → y ≤ scale * (band_at t k).top → bands_below scale y (drop k t) ≡ 0
-  unfolding bands_below
-  stops h e = rw (drop-cons t k no_band h, le-ltb (scale * (band_at t k).top) y e)
+abbrev from : ℕ → ℕ → Band → Bool
+from scale y b = leb y (scale * b.top)
 
-  pub goes_on : k < length t → scale * (band_at t k).top < y → bands_below scale y (drop k t) ≡ suc (bands_below scale y (drop (suc k) t))
-  unfolding bands_below
-  goes_on h e = rw (drop-cons t k no_band h, lt-ltb (scale * (band_at t k).top) y e)
+-- how many of the first h bands end below: all of them, or as many as end below on the whole table
+below_first : (scale y : ℕ) (t : List Band) (h : ℕ) → h ≤ length t → let n = position_or_len (from scale y) (take h t) in
+    (n < h → n ≡ bands_below scale y t) × (h ≤ n → bands_below scale y t ≡ h + bands_below scale y (drop h t))
+unfolding bands_below
+below_first scale y t zero l = ((λ k. absurd (not-suc-le-zero k)), (λ k. omega arith))
+below_first scale y [] (suc h) l = absurd (not-suc-le-zero l)
+below_first scale y (b ∷ bs) (suc h) l = go (ltb (scale * b.top) y) refl (below_first scale y bs h (le_of_suc-le-suc l))
+  where
+    go : (v : Bool) → ltb (scale * b.top) y ≡ v → let m = position_or_len (from scale y) (take h bs) in
+        (m < h → m ≡ bands_below scale y bs) × (h ≤ m → bands_below scale y bs ≡ h + bands_below scale y (drop h bs)) →
+        let n = position_or_len (from scale y) (b ∷ take h bs) in
+        (n < suc h → n ≡ cond v (suc (bands_below scale y bs)) 0) ×
+        (suc h ≤ n → cond v (suc (bands_below scale y bs)) 0 ≡ suc h + bands_below scale y (drop h bs))
+    go true e rest =
+        rw (lt-leb y (scale * b.top) (ltb-true (scale * b.top) y e))
+        ((λ k. let r = rest.0 (omega arith) in omega (arith, r)), (λ k. let r = rest.1 (omega arith) in omega (arith, r)))
+    go false e rest =
+        rw (le-leb y (scale * b.top) (ltb-false (scale * b.top) y e)) ((λ k. refl), (λ k. absurd (not-suc-le-zero k)))
+
+-- what trying the bands of a half tells
+pub tried_some : (scale y : ℕ) (t : List Band) (h k : ℕ) → h ≤ length t → Some k ≡ first_from scale y (take h t) → k ≡ bands_below scale y t
+tried_some scale y t h k l e =
+    let found = cond_some _ _ _ (sym e) in
+    let below : position_or_len (from scale y) (take h t) < h = omega (arith, ltb-true _ _ found.0, length-take-le h t l) in
+    sym found.1 ∙ (below_first scale y t h l).0 below
+
+pub tried_none : (scale y : ℕ) (t : List Band) (h : ℕ) → h ≤ length t → None ≡ first_from scale y (take h t) →
+    bands_below scale y t ≡ h + bands_below scale y (drop h t)
+tried_none scale y t h l e = (below_first scale y t h l).1 (go (ltb (position_or_len (from scale y) (take h t)) (length (take h t))) refl e)
+  where
+    go : (v : Bool) → ltb (position_or_len (from scale y) (take h t)) (length (take h t)) ≡ v →
+        None ≡ cond v (Some (position_or_len (from scale y) (take h t))) None → h ≤ position_or_len (from scale y) (take h t)
+    go true i n = absurd (none-some _ n)
+    go false i n = omega (arith, ltb-false _ _ i, length-take-le h t l)
 
 -- no more bands end below than there are
 pub no_more : (scale y : ℕ) (t : List Band) → bands_below scale y t ≤ length t
@@ -40,22 +72,17 @@ no_more scale y (b ∷ bs) = go (ltb (scale * b.top) y) (no_more scale y bs)
 
 -- ---- all bands counted
 
-module _ (scale y : ℕ) (t : List Band) (k : ℕ) where
-  pub counted : k < length t → scale * (band_at t k).top < y → count_below scale y (drop k t) ≡ suc (count_below scale y (drop (suc k) t))
-  unfolding count_below
-  counted h e = rw (drop-cons t k no_band h, lt-ltb (scale * (band_at t k).top) y e) (omega arith)
+counting : ℕ → ℕ → List Band → ℕ
+counting scale y [] = 0
+counting scale y (b ∷ bs) = cond (ltb (scale * b.top) y) (1 + counting scale y bs) (counting scale y bs)
 
-  pub not_counted : k < length t → y ≤ scale * (band_at t k).top → count_below scale y (drop k t) ≡ count_below scale y (drop (suc k) t)
-  unfolding count_below
-  not_counted h e = rw (drop-cons t k no_band h, le-ltb (scale * (band_at t k).top) y e) (omega arith)
-
-  pub all_seen : length t ≤ k → count_below scale y (drop k t) ≡ 0
-  unfolding count_below
-  all_seen h = rw (drop_of_length-le t h)
+counting_is : (scale y : ℕ) (t : List Band) → counting scale y t ≡ count_below scale y t
+unfolding counting
+counting_is scale y t = is_count_by (counting scale y) (λ b. ltb (scale * b.top) y) refl (λ b bs. refl) t
 
 -- of bands that start at y or above it none ends below it
-none_counted : (scale y a : ℕ) (t : List Band) → Chain a t → y ≤ scale * a → count_below scale y t ≡ 0
-unfolding count_below
+none_counted : (scale y a : ℕ) (t : List Band) → Chain a t → y ≤ scale * a → counting scale y t ≡ 0
+unfolding counting
 none_counted scale y a [] c h = refl
 none_counted scale y a (b ∷ bs) c h =
     let rises : a ≤ b.top = omega (arith, c.0, c.1.rises) in
@@ -63,15 +90,18 @@ none_counted scale y a (b ∷ bs) c h =
     rw (le-ltb (scale * b.top) y over) (omega (arith, none_counted scale y b.top bs c.2 over))
 
 -- the bands of a table rise, so that those that end below y come first
-pub counts_all : (scale y a : ℕ) (t : List Band) → Chain a t → count_below scale y t ≡ bands_below scale y t
-unfolding count_below bands_below
-counts_all scale y a [] c = refl
-counts_all scale y a (b ∷ bs) c = go (ltb (scale * b.top) y) refl (counts_all scale y b.top bs c.2)
+counts_bands : (scale y a : ℕ) (t : List Band) → Chain a t → counting scale y t ≡ bands_below scale y t
+unfolding bands_below counting
+counts_bands scale y a [] c = refl
+counts_bands scale y a (b ∷ bs) c = go (ltb (scale * b.top) y) refl (counts_bands scale y b.top bs c.2)
   where
-    go : (v : Bool) → ltb (scale * b.top) y ≡ v → count_below scale y bs ≡ bands_below scale y bs →
-        cond v 1 0 + count_below scale y bs ≡ cond v (suc (bands_below scale y bs)) 0
+    go : (v : Bool) → ltb (scale * b.top) y ≡ v → counting scale y bs ≡ bands_below scale y bs →
+        cond v (1 + counting scale y bs) (counting scale y bs) ≡ cond v (suc (bands_below scale y bs)) 0
     go true e rest = omega (arith, rest)
-    go false e rest = omega (arith, none_counted scale y b.top bs c.2 (ltb-false (scale * b.top) y e))
+    go false e rest = none_counted scale y b.top bs c.2 (ltb-false (scale * b.top) y e)
+
+pub counts_all : (scale y a : ℕ) (t : List Band) → Chain a t → count_below scale y t ≡ bands_below scale y t
+counts_all scale y a t c = sym (counting_is scale y t) ∙ counts_bands scale y a t c
 
 -- the bands from an index on are chained too
 pub rest_chained : (k a : ℕ) (t : List Band) → Chain a t → (b : ℕ) × Chain b (drop k t)

@@ -1,4 +1,5 @@
 -- The list ladder holds exactly what document 01 calls a ladder price.
+use Rattle.std.specs.Prelude.{Some}
 use mathlib.Core.Path.{◌≡◌, refl, ap, sym, ◌∙◌}
 use Prim.Native.Nat.{ℕ, zero, suc, ◌+◌, ◌-◌, ◌*◌, ◌%◌, ◌≤◌, ◌<◌}
 use native.Mathlib.Nat.{le_refl, le_of_lt, eq-zero-or-pos, add-sub_cancel, mul-mod_left, mul-le-mul_right, mul-pos}
@@ -9,7 +10,6 @@ use mathlib.Core.Logic.{◌⊎◌, inl, inr, ⊎_elim}
 use mathlib.Core.List.{List, [], ◌∷◌, ◌++◌}
 use lib.Dec.{T, eqb, ltb, leb, eqb→eq, ltb→lt, lt→ltb, leb→le, le→leb, eqb_refl}
 use Rattle.ladder.specs.declared.Band.{Band}
-use Rattle.ladder.specs.declared.Found.TheVariants.{Price}
 use Rattle.ladder.specs.Bands.{well_formed}
 use Rattle.ladder.specs.Ladder.{width, rungs, band_prices, ladder, in_band, in_some_band, is_ladder_price}
 use Rattle.facts.specs.Lists.{holds}
@@ -46,10 +46,10 @@ module _ (b : Band) (w : Whole b) (r : List ℕ) (p : ℕ) where
   leaves : T (holds p list) → (p ≡ b.bottom) ⊎ (T (in_band p b) ⊎ T (holds p (b.top ∷ r)))
   leaves h = let e = held_entry list p h in go e.0 e.1 (dec_le e.0 (width b))
     where
-      at : (k : ℕ) → k ≤ width b → price_at k list ≡ Price p → p ≡ k * b.spread + b.bottom
+      at : (k : ℕ) → k ≤ width b → price_at k list ≡ Some p → p ≡ k * b.spread + b.bottom
       at k h e = let q = rungs_entry b.spread b.bottom (width b) r k h in cc
 
-      go : (k : ℕ) → price_at k list ≡ Price p → Dec (k ≤ width b) → (p ≡ b.bottom) ⊎ (T (in_band p b) ⊎ T (holds p (b.top ∷ r)))
+      go : (k : ℕ) → price_at k list ≡ Some p → Dec (k ≤ width b) → (p ≡ b.bottom) ⊎ (T (in_band p b) ⊎ T (holds p (b.top ∷ r)))
       go zero e (yes h) = inl (omega (arith, at 0 h e))
       go (suc k) e (yes h) = inr (inl (in_band_lem b w p (suc k) (omega arith) h (at (suc k) h e)))
       go k e (no h) =
@@ -61,7 +61,7 @@ module _ (b : Band) (w : Whole b) (r : List ℕ) (p : ℕ) where
   enters : T (in_band p b) → T (holds p list)
   enters t =
       let x = in_band_index b w p t in
-      entry_held list x.i p (rungs_entry b.spread b.bottom (width b) r x.i x.within ∙ ap Price (sym x.is))
+      entry_held list x.i p (rungs_entry b.spread b.bottom (width b) r x.i x.within ∙ ap Some (sym x.is))
 
   passes : T (holds p (b.top ∷ r)) → T (holds p list)
   passes h =

@@ -1,4 +1,5 @@
 -- What a well-formed table is, as facts; and the prices of its bands on the ladder.
+use Rattle.std.specs.Prelude.{Some}
 use mathlib.Core.Path.{◌≡◌, refl}
 use Prim.Native.Nat.{ℕ, suc, ◌+◌, ◌-◌, ◌*◌, ◌/◌, ◌%◌, ◌≤◌, ◌<◌}
 use native.Mathlib.Nat.{add-suc, div-add-mod', le_of_mul-le-mul_right}
@@ -7,7 +8,6 @@ use mathlib.Core.List.{List, [], ◌∷◌}
 use lib.Dec.{T, ltb, ltb→lt}
 use lib.ListN.{length}
 use Rattle.ladder.specs.declared.Band.{Band}
-use Rattle.ladder.specs.declared.Found.TheVariants.{Price}
 use Rattle.ladder.specs.Bands.{chained, well_formed}
 use Rattle.ladder.specs.Ladder.{width, band_prices, ladder}
 use Rattle.facts.specs.Lists.{holds, Rising}
@@ -81,7 +81,7 @@ module _ (t : List Band) (wf : T (well_formed t)) where
   module _ (k : ℕ) (h : k < length t) where
     -- entry i of band k, at the place of its bottom and i
     pub entry : (i : ℕ) → i ≤ width (band_at t k) →
-        price_at (places_below k t + i) (ladder t) ≡ Price (i * (band_at t k).spread + (band_at t k).bottom)
+        price_at (places_below k t + i) (ladder t) ≡ Some (i * (band_at t k).spread + (band_at t k).bottom)
     entry i w = let f = table_facts t wf in rw f.list (band_entry (start t) t f.chain k i (places_below k t + i) h w refl)
 
     pub entry_on : (i : ℕ) → i ≤ width (band_at t k) → T (holds (i * (band_at t k).spread + (band_at t k).bottom) (ladder t))
@@ -105,5 +105,5 @@ module _ (t : List Band) (wf : T (well_formed t)) where
     band_next b e i m = rw e (entries_next i (rw e at m))
 
     pub band_entry_at : (b : Band) → b ≡ band_at t k → (i : ℕ) → i ≤ width b →
-        price_at (places_below k t + i) (ladder t) ≡ Price (i * b.spread + b.bottom)
+        price_at (places_below k t + i) (ladder t) ≡ Some (i * b.spread + b.bottom)
     band_entry_at b e i m = rw e (entry i (rw e at m))

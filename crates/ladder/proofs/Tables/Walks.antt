@@ -17,7 +17,6 @@ use Rattle.ladder.specs.Spreads.{spread_up, spread_down, times}
 use Rattle.ladder.specs.declared.turns.Turn.{Turn}
 use Rattle.ladder.specs.declared.turns.Turn.TheVariants.{Ends, Leaves}
 use Rattle.ladder.specs.Arithmetic.{StandsIn, turn_of}
-use Rattle.facts.proofs.Tests.{zero_is_one}
 use Rattle.ladder.proofs.Lists.Moves.{spread_up_lem, spread_down_lem, up_stays, down_stays, times_add, times_along, times_stays}
 use Rattle.ladder.proofs.Tables.Chain.{Whole, band_at, band_after}
 use Rattle.ladder.proofs.Tables.Table.{start, table_facts, Index, index_of, first_is_start, last_is_top, ladder_rises, entries_next, is_whole}
@@ -31,14 +30,14 @@ module _ (n spread room : ℕ) where
       go : (v : Bool) → leb (n * spread) room ≡ v → cond v (Ends (n * spread)) (Leaves (n - room / spread)) ≡ Ends mils →
           (mils ≡ n * spread) × (n * spread ≤ room)
       go true l i = ((cc), leb-true (n * spread) room l)
-      go false l i = let z : ◌≡◌ {A = ℕ} 0 1 = cc in absurd (zero_is_one z)
+      go false l i = absurd (grind arith)
 
   pub turn_leaves : (rest : ℕ) → turn_of n spread room ≡ Leaves rest → (rest ≡ n - room / spread) × (room < n * spread)
   turn_leaves rest e = go (leb (n * spread) room) refl e
     where
       go : (v : Bool) → leb (n * spread) room ≡ v → cond v (Ends (n * spread)) (Leaves (n - room / spread)) ≡ Leaves rest →
           (rest ≡ n - room / spread) × (room < n * spread)
-      go true l i = let z : ◌≡◌ {A = ℕ} 0 1 = cc in absurd (zero_is_one z)
+      go true l i = absurd (grind arith)
       go false l i = ((cc), leb-false (n * spread) room l)
 
 -- ---- a way through a band, up or down
@@ -49,9 +48,11 @@ record Way (step : ℕ → ℕ) (spread p room end : ℕ) (move : ℕ → ℕ) :
   whole : room / spread * spread ≡ room
   to_end : move room ≡ end
 
--- what a walk of n spreads from `price` keeps, band after band: it stands in band k, and the spreads that are left lead where all n lead
-pub record Walking (step : ℕ → ℕ) (t : List Band) (price n k at left : ℕ) : Type 0 where
-  pub stands : StandsIn t k at
+-- what a walk of n spreads from `price` keeps, from band to band: it stands in band k, the one to come, or there is no more, and it halts;
+-- and the spreads that are left lead where all n lead
+pub record Going (step : ℕ → ℕ) (t : List Band) (price n at left k : ℕ) (more : Type 0) : Type 0 where
+  pub stands : more → StandsIn t k at
+  pub halts : (more → ⊥) → (m : ℕ) → times m step at ≡ at
   pub leads : times left step at ≡ times n step price
 
 -- what a turn tells such a walk: it ends in the band, or leaves it and goes on from the band's end with the spreads that are left
@@ -150,16 +151,6 @@ module _ (t : List Band) (wf : T (well_formed t)) (k p : ℕ) (on : StandsIn t k
     way_down : Way (spread_down (ladder t)) b.spread p (p - b.bottom) b.bottom (λ m. p - m)
     way_down = rw f (record { within = down_within; whole = room_down; to_end = omega (arith, on.low) })
 
--- what a turn in band k, read as b, tells a walk up, and a walk down
-module _ (t : List Band) (wf : T (well_formed t)) (price n k at left : ℕ) (b : Band) (f : b ≡ band_at t k) (turn : Turn) where
-  pub told_up : Walking (spread_up (ladder t)) t price n k at left → turn ≡ turn_of left b.spread (b.top - at) →
-      Told (spread_up (ladder t)) price n (b.top - at) b.top (λ m. at + m) turn
-  told_up w is = told _ b.spread at _ _ _ (way_up t wf k at w.stands b f) left price n w.leads turn is
-
-  pub told_down : Walking (spread_down (ladder t)) t price n k at left → turn ≡ turn_of left b.spread (at - b.bottom) →
-      Told (spread_down (ladder t)) price n (at - b.bottom) b.bottom (λ m. at - m) turn
-  told_down w is = told _ b.spread at _ _ _ (way_down t wf k at w.stands b f) left price n w.leads turn is
-
 -- ---- from band to band
 
 module _ (t : List Band) (wf : T (well_formed t)) where
@@ -174,26 +165,58 @@ module _ (t : List Band) (wf : T (well_formed t)) where
       record { index = h; low = omega arith; high = omega arith; multiple = w.multiple }
 
   -- the top of a band is the bottom of the next
-  pub into_next : (k : ℕ) → k + 1 < length t → (b : Band) → b ≡ band_at t k → StandsIn t (k + 1) b.top
-  into_next k h b f =
+  into_next : (k : ℕ) → k + 1 < length t → StandsIn t (k + 1) (band_at t k).top
+  into_next k h =
       let after : (band_at t (k + 1)).bottom ≡ (band_at t k).top = rw add-one (band_after (start t) t (table_facts t wf).chain k (rw add-one at h)) in
-      rw (f, ← after) (on_bottom (k + 1) h)
+      rw (← after) (on_bottom (k + 1) h)
 
   -- the bottom of a band is the top of the one before
-  pub into_previous : (k : ℕ) → k < length t → (k ≡ 0 → ⊥) → (b : Band) → b ≡ band_at t k → StandsIn t (k - 1) b.bottom
-  into_previous k h more b f =
-      let e : k ≡ suc (k - 1) = omega arith in
-      let after : (band_at t k).bottom ≡ (band_at t (k - 1)).top =
-      ap (λ i. (band_at t i).bottom) e ∙ band_after (start t) t (table_facts t wf).chain (k - 1) (omega arith) in
-      rw (f, after) (on_top (k - 1) (omega arith))
+  into_previous : (k : ℕ) → suc k < length t → StandsIn t k (band_at t (suc k)).bottom
+  into_previous k h = rw (band_after (start t) t (table_facts t wf).chain k h) (on_top k (omega arith))
 
   -- a walk halts at the last top, and at the first bottom
-  pub up_halts : (k : ℕ) → k + 1 ≡ length t → (b : Band) → b ≡ band_at t k → (n : ℕ) → times n (spread_up (ladder t)) b.top ≡ b.top
-  up_halts k e b f n =
-      let last : last_price (ladder t) ≡ b.top = rw f (last_is_top t wf k e) in
-      times_stays (spread_up (ladder t)) b.top (rw (← last) (up_stays (ladder t) (ladder_rises t wf))) n
+  up_halts : (k : ℕ) → k + 1 ≡ length t → (n : ℕ) → times n (spread_up (ladder t)) (band_at t k).top ≡ (band_at t k).top
+  up_halts k e n =
+      let last : last_price (ladder t) ≡ (band_at t k).top = last_is_top t wf k e in
+      times_stays (spread_up (ladder t)) (band_at t k).top (rw (← last) (up_stays (ladder t) (ladder_rises t wf))) n
 
-  pub down_halts : (b : Band) → b ≡ band_at t 0 → (n : ℕ) → times n (spread_down (ladder t)) b.bottom ≡ b.bottom
-  down_halts b f n =
-      let first : first_price (ladder t) ≡ b.bottom = rw f (first_is_start t wf) in
-      times_stays (spread_down (ladder t)) b.bottom (rw (← first) (down_stays (ladder t) (ladder_rises t wf))) n
+  down_halts : (n : ℕ) → times n (spread_down (ladder t)) (band_at t 0).bottom ≡ (band_at t 0).bottom
+  down_halts n =
+      let first : first_price (ladder t) ≡ (band_at t 0).bottom = first_is_start t wf in
+      times_stays (spread_down (ladder t)) (band_at t 0).bottom (rw (← first) (down_stays (ladder t) (ladder_rises t wf))) n
+
+-- ---- a band of a walk, which the code reads as b
+
+module _ (t : List Band) (wf : T (well_formed t)) (price n at left k : ℕ) (h : k < length t) (b : Band) (f : b ≡ band_at t k) where
+  abbrev up : ℕ → ℕ
+  up = spread_up (ladder t)
+
+  abbrev down : ℕ → ℕ
+  down = spread_down (ladder t)
+
+  module _ (more : Type 0) (m : more) (turn : Turn) where
+    pub told_up : Going up t price n at left k more → turn ≡ turn_of left b.spread (b.top - at) →
+        Told up price n (b.top - at) b.top (λ m. at + m) turn
+    told_up w is = told _ b.spread at _ _ _ (way_up t wf k at (w.stands m) b f) left price n w.leads turn is
+
+    pub told_down : Going down t price n at left k more → turn ≡ turn_of left b.spread (at - b.bottom) →
+        Told down price n (at - b.bottom) b.bottom (λ m. at - m) turn
+    told_down w is = told _ b.spread at _ _ _ (way_down t wf k at (w.stands m) b f) left price n w.leads turn is
+
+  -- past the band
+  pub next_up : (rest : ℕ) → times rest up b.top ≡ times n up price → Going up t price n b.top rest (k + 1) (k + 1 < length t)
+  next_up rest e =
+      record {
+        stands = λ l. rw f (into_next t wf k l);
+        halts = λ l m. rw f (up_halts t wf k (omega (arith, l)) m);
+        leads = e;
+      }
+
+  pub next_down : (rest : ℕ) → times rest down b.bottom ≡ times n down price → Going down t price n b.bottom rest (k - 1) (0 < k)
+  next_down rest e = record { stands = stands; halts = halts; leads = e }
+    where
+      stands : 0 < k → StandsIn t (k - 1) b.bottom
+      stands l = let e : k ≡ suc (k - 1) = omega arith in rw (f ∙ ap (band_at t) e) (into_previous t wf (k - 1) (rw e at h))
+
+      halts : (0 < k → ⊥) → (m : ℕ) → times m down b.bottom ≡ b.bottom
+      halts l m = let e : k ≡ 0 = omega (arith, l) in rw (f ∙ ap (band_at t) e) (down_halts t wf m)

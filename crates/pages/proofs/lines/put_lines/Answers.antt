@@ -17,23 +17,19 @@ last_line l percent first k s h = let m = k - 1 in let e : k ≡ suc m = omega a
 pub loop-k-preserved : goal.loop-k-preserved
 loop-k-preserved c =
     let k = c.loop-k.k in
-    let prices = prices_of c.args.table.now in
+    let prices = prices_of c.args.terms.now.table in
+    let percentage = c.args.terms.now.percentage in
     let questions = c.args.questions.now in
-    let asked = question_at (k - 1) questions in
     let one_question : (k - 1) * question_bytes + question_bytes - (k - 1) * question_bytes ≡ question_bytes = omega arith in
-    let answered_by : ℕ → Answer = λ n. judged prices c.args.percentage (take n (drop ((k - 1) * question_bytes) questions)) in
-    let answer : c.judge-answer.result ≡ judged prices c.args.percentage asked = c.judge-answer.ensures ∙ ap answered_by one_question in (
-      omega arith,
-      omega (arith, c.loop-k.invariant.1, c.put_line-at.ensures.room),
-      (text_laws.filled_by_parts _ _ _).further _ _ _ c.loop-k.invariant.2 c.requires.inside _
-          (line (c.args.first + (k - 1)) (judged prices c.args.percentage asked))
-          (last_line prices c.args.percentage c.args.first k questions (omega arith)) _ (rw (← answer) c.put_line-at.ensures.start) _
-          (rw (← answer) c.put_line-at.ensures.text),
+    let answered_by : ℕ → Answer = λ n. judged prices percentage (take n (drop ((k - 1) * question_bytes) questions)) in
+    let answer = c.judge-answer.ensures ∙ ap answered_by one_question in (
+      omega (arith, c.loop-k.invariant.0, c.put_line.ensures.room),
+      (text_laws.filled_by_parts _ _).further c.loop-k.invariant.1 (last_line prices percentage c.args.first k questions (omega arith))
+          (rw (← answer) c.put_line.ensures.line),
     )
 
 pub returns : goal.returns
 unfolding lines_to
 returns c =
     let none : c.loop-k.k ≡ 0 = omega arith in
-    let all = (text_laws.filled_by_parts _ _ _).ended _ _ (rw none at c.loop-k.invariant.2) in
-    record { start = all.0; text = all.1 }
+    (text_laws.filled_by_parts _ _).ended (rw none at c.loop-k.invariant.1)

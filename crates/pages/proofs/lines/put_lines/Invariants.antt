@@ -8,11 +8,5 @@ use Rattle.pages.proofs.lines.put_lines.Given as goal
 
 abbrev pub invariant-loop-k : goal.invariant-loop-k
 invariant-loop-k l =
-    (l.k ≤ l.count) ×
-    (l.k * line_room ≤ l.at) ×
-    Filled (lines_to (prices_of l.table) l.percentage l.first l.count l.questions)
-    (lines_to (prices_of l.table) l.percentage l.first l.k l.questions)
-    l.at l.end l.fn.text l.text
-
-abbrev pub decreases-loop-k : goal.decreases-loop-k
-decreases-loop-k l = l.k
+    let lines = lines_to (prices_of l.terms.table) l.terms.percentage l.first in
+    (l.k * line_room ≤ l.text.start) × Filled (lines l.count l.questions) (lines l.k l.questions) l.fn.text l.text

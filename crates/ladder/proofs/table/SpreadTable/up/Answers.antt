@@ -1,0 +1,8 @@
+-- n spreads up: a walk from the band of the price, or none from a price off the ladder.
+use Rattle.std.proofs.Common.{sym}
+use Rattle.ladder.proofs.Tables.Stands.{standing_stands}
+use Rattle.ladder.proofs.table.SpreadTable.up.Goals as goal
+
+pub walk_up-requires : goal.walk_up-requires
+walk_up-requires c =
+    standing_stands c.args.self.now.bands.now c.args.self.now.is_well_formed c.args.price c.in_ok-index.index (sym c.in_ok-index.ensures)
