@@ -1,11 +1,12 @@
 -- A batch of questions, and the buffer of its answers. Document 01, "Question and answer".
-use Rattle.std.specs.Prelude.{ℕ, zero, suc, ◌*◌, ◌%◌, Bool, not, ◌||◌, cond, [], ◌++◌, eqb, ltb, length, drop}
+use Rattle.std.specs.Prelude.{ℕ, zero, suc, ◌*◌, ◌%◌, Bool, not, ◌||◌, cond, [], ◌++◌, eqb, ltb, length, drop, Result, Ok, Err}
 use Rattle.ladder.specs.Ladder.{Prices}
 use Rattle.limits.specs.declared.Percentage.{Percentage}
 use Rattle.little_endian.specs.Numbers.{Bytes}
 use Rattle.questions.specs.Record.{question_bytes, count_of, question_at}
 use Rattle.judging.specs.Answers.{judged}
 use Rattle.batch.specs.declared.Outcome.{Outcome}
+use Rattle.batch.specs.declared.TurnedAway.{TurnedAway}
 use Rattle.batch.specs.Record.{answer_bytes, encoded}
 
 -- "A batch is up to 1,000 questions."
@@ -27,9 +28,17 @@ answers_to l percent (suc n) s = answers_to l percent n s ++ encoded (judged l p
 abbrev pub answered : Prices → Percentage → ℕ → Bytes → Bytes → Bytes
 answered l percent n s a = answers_to l percent n s ++ drop (n * answer_bytes) a
 
+-- how many questions are judged, or that the batch is turned away
+abbrev pub counted : Bytes → Bytes → Result ℕ TurnedAway
+counted s a = cond (refused (length s) (length a)) (Err (record {})) (Ok (count_of (length s)))
+
 -- "the number of questions is returned with number 0"; with number 1 "Count 0"
+abbrev pub outcome_by : Result ℕ TurnedAway → Outcome
+outcome_by (Ok n) = record { number = 0; count = n }
+outcome_by (Err e) = record { number = 1; count = 0 }
+
 abbrev pub outcome_of : Bytes → Bytes → Outcome
-outcome_of s a = cond (refused (length s) (length a)) (record { number = 1; count = 0 }) (record { number = 0; count = count_of (length s) })
+outcome_of s a = outcome_by (counted s a)
 
 -- the buffer after the call, where it was a before; with number 1 "buffer untouched"
 abbrev pub buffer_after : Prices → Percentage → Bytes → Bytes → Bytes

@@ -11,7 +11,7 @@ ghost use Rattle.std.specs.Prelude.{◌≡◌};
 ghost use Rattle.ladder.specs.Bands.{phase1};
 ghost use Rattle.ladder.specs.Ladder.{ladder};
 ghost use Rattle.limits.specs.Limits.{five_percent};
-ghost use Rattle.batch.specs.Batch.{outcome_of, buffer_after};
+ghost use Rattle.batch.specs.Batch.{counted, outcome_by, buffer_after};
 
 use limits::terms::usual;
 
@@ -21,7 +21,11 @@ pub const ANSWER_BYTES: usize = 12;
 // How many questions a batch may have.
 pub const MOST_QUESTIONS: usize = 1000;
 
-// The outcome of a batch: 0 and how many questions were judged, or 1 and 0.
+// A batch is turned away: by its bytes, or by those of its answer buffer.
+#[derive(Clone, Copy, Debug, PartialEq, Eq)]
+pub struct TurnedAway;
+
+// The outcome of a batch, for C: 0 and how many questions were judged, or 1 and 0.
 #[repr(C)]
 #[derive(Clone, Copy, Debug, PartialEq, Eq)]
 pub struct Outcome {
@@ -29,10 +33,28 @@ pub struct Outcome {
     pub count: u32,
 }
 
-// Judges each question of a batch. Answer k goes into bytes 12 k to 12 k + 11 of the buffer, and the bytes after the last answer keep
-// their content. Bytes that are no batch, or a buffer that is too short, get 1: the buffer then keeps every byte.
-pub fn judge_batch(questions: &[u8], answers: &mut [u8]) -> Outcome
-    ensures outcome { result ≡ outcome_of questions.now answers.old }
+// The answer number of a batch that is turned away.
+const TURNED_AWAY: u32 = 1;
+
+impl From<Result<u32, TurnedAway>> for Outcome {
+    ghost from_gives = { λ judged outcome. outcome ≡ outcome_by judged };
+
+    fn from(judged: Result<u32, TurnedAway>) -> Outcome {
+        match judged {
+            Ok(count) => Outcome { number: 0, count },
+            Err(TurnedAway) => Outcome {
+                number: TURNED_AWAY,
+                count: 0,
+            },
+        }
+    }
+}
+
+// Judges each question of a batch, and answers how many there are. Answer k goes into bytes 12 k to 12 k + 11 of the buffer, and the bytes
+// after the last answer keep their content. Bytes that are no batch, or a buffer that is too short, are turned away: the buffer then keeps
+// every byte.
+pub fn judge_batch(questions: &[u8], answers: &mut [u8]) -> Result<u32, TurnedAway>
+    ensures count { result ≡ counted questions.now answers.old }
     ensures buffer { answers.new ≡ buffer_after (ladder phase1) five_percent questions.now answers.old }
 {
     batches::judge(&usual(), questions, answers)

@@ -17,5 +17,5 @@ pub extern "C" fn hendovita_judge_batch(questions: &[u8], answers: &mut [u8]) ->
     ensures outcome { result ≡ outcome_of questions.now answers.old }
     ensures buffer { answers.new ≡ buffer_after (ladder phase1) five_percent questions.now answers.old }
 {
-    batch::judge_batch(questions, answers)
+    Outcome::from(batch::judge_batch(questions, answers))
 }

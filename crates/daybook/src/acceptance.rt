@@ -27,5 +27,5 @@ pub(crate) fn is_on_ladder(price: u32) -> bool
 pub(crate) fn do_meet(bid: Reference, ask: Reference) -> bool
     ensures { result ≡ meet bid ask }
 {
-    bid.is_present() & ask.is_present() & !bid.is_below(ask)
+    matches!((bid, ask), (Reference::Price(bid), Reference::Price(ask)) if ask <= bid)
 }

@@ -10,20 +10,9 @@ use questions::Reference;
 pub(crate) fn fresh_day(previous_close: Reference) -> Day
     ensures { result ≡ fresh_day previous_close }
 {
-    let none = Quotes {
-        current: Reference::Missing,
-        last: Reference::Missing,
-        lowest: Reference::Missing,
-        highest: Reference::Missing,
-    };
     Day {
         previous_close,
-        bids: none,
-        asks: none,
-        traded: Traded {
-            low: Reference::Missing,
-            high: Reference::Missing,
-        },
+        ..Day::default()
     }
 }
 

@@ -18,7 +18,7 @@ use questions::Reference;
 
 // What is kept of the bids, or of the asks: the current one, which is missing where the queue is empty; the last one, which is the current
 // one where there is one; the lowest and the highest so far.
-#[derive(Clone, Copy, Debug, PartialEq, Eq)]
+#[derive(Clone, Copy, Debug, Default, PartialEq, Eq)]
 pub struct Quotes {
     pub current: Reference,
     pub last: Reference,
@@ -27,14 +27,14 @@ pub struct Quotes {
 }
 
 // The lowest and the highest price of the System trades so far.
-#[derive(Clone, Copy, Debug, PartialEq, Eq)]
+#[derive(Clone, Copy, Debug, Default, PartialEq, Eq)]
 pub struct Traded {
     pub low: Reference,
     pub high: Reference,
 }
 
 // A day of one security.
-#[derive(Clone, Copy, Debug, PartialEq, Eq)]
+#[derive(Clone, Copy, Debug, Default, PartialEq, Eq)]
 pub struct Day {
     pub previous_close: Reference,
     pub bids: Quotes,
@@ -153,20 +153,10 @@ impl Day {
         match kind {
             1 => self.best_bid(price),
             2 => self.best_ask(price),
-            3 => {
-                if price != 0 {
-                    return self.told(Told::UnknownEvent);
-                }
-                self.buy_queue_empty()
-            }
-            4 => {
-                if price != 0 {
-                    return self.told(Told::UnknownEvent);
-                }
-                self.sell_queue_empty()
-            }
+            3 if price == 0 => self.buy_queue_empty(),
+            4 if price == 0 => self.sell_queue_empty(),
             5 => self.system_trade(price),
-            0 | 6..=4294967295 => self.told(Told::UnknownEvent),
+            0 | 3 | 4 | 6..=u32::MAX => self.told(Told::UnknownEvent),
         }
     }
 }

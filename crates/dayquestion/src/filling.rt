@@ -3,6 +3,7 @@ ghost use Rattle.std.specs.Prelude.{◌≡◌};
 ghost use Rattle.dayquestion.specs.Filling.{queue_code, queue_code_of, references_from};
 
 use daybook::Day;
+use questions::code_names::{BOTH, BUY_ONLY, NEITHER, OPENING, SELL_ONLY};
 use questions::{Reference, References};
 
 // The queue code, by whether there was a bid or an ask today, and whether there is a current bid, and a current ask.
@@ -10,11 +11,11 @@ fn queue_code(any_today: bool, bid: bool, ask: bool) -> u8
     ensures { result ≡ queue_code any_today bid ask }
 {
     match (any_today, bid, ask) {
-        (false, _, _) => 1,
-        (true, true, true) => 2,
-        (true, true, false) => 3,
-        (true, false, true) => 4,
-        (true, false, false) => 5,
+        (false, _, _) => OPENING,
+        (true, true, true) => BOTH,
+        (true, true, false) => BUY_ONLY,
+        (true, false, true) => SELL_ONLY,
+        (true, false, false) => NEITHER,
     }
 }
 

@@ -43,11 +43,7 @@ impl fmt::Display for Answer {
 pub fn none_shown(number: u32) -> Answer
     ensures { result ≡ none_shown number }
 {
-    Answer {
-        number,
-        lowest: 0,
-        highest: 0,
-    }
+    answer(number, showing::NONE)
 }
 
 // The answer to a question that is refused.

@@ -14,7 +14,7 @@ use ranges::Range;
 const FOLD: u32 = 9;
 
 // No range.
-const NONE: Shown = Shown {
+pub(crate) const NONE: Shown = Shown {
     lowest: 0,
     highest: 0,
 };

@@ -33,8 +33,7 @@ pub fn verdict_on(table: &SpreadTable, range: Range, price: u32) -> Verdict
     if range.highest < price {
         return Verdict::AboveHighest;
     }
-    let nine_fold = range.nine_fold;
-    if !showing::does_pass(nine_fold, price) {
+    if !showing::does_pass(range.nine_fold, price) {
         return Verdict::NineFold;
     }
     Verdict::Accepted

@@ -6,4 +6,5 @@ pub mod Landing
 pub mod Stands
 pub mod Walks
 pub mod Counting
+pub mod Rise
 pub mod Gaps

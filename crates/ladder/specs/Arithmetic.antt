@@ -1,4 +1,4 @@
--- Band arithmetic: where a threshold lands, where a price stands, and one turn of a walk.
+-- Band arithmetic: where a threshold lands, where a price stands, one turn of a walk, and so many places up.
 -- Only functions inside this crate speak of these; what other crates may call is told by the other files.
 use Rattle.std.specs.Prelude.{◌≡◌, ℕ, zero, suc, ◌+◌, ◌-◌, ◌*◌, ◌/◌, ◌%◌, ◌≤◌, ◌<◌, cond, List, [], ◌∷◌, leb, ltb, length, get_or, Option, Some, None, position, count_by}
 use Rattle.ladder.specs.declared.turns.Turn.{Turn}
@@ -8,6 +8,7 @@ use Rattle.ladder.specs.Bands.{Table, no_band}
 use Rattle.ladder.specs.Ladder.{width, ladder}
 use Rattle.facts.specs.Lists.{holds}
 use Rattle.ladder.specs.Search.{first, latest, at_least, at_most}
+use Rattle.ladder.specs.Places.{price_at}
 
 -- how many bands, from the first, end below y: their top, times scale, is less than y. Where y lands on the table, this is the
 -- index of its band; above the table it is the number of bands
@@ -44,6 +45,10 @@ places_below (suc k) (b ∷ bs) = width b + places_below k bs
 -- n spreads in a band that has `room` mils that way
 abbrev pub turn_of : ℕ → ℕ → ℕ → Turn
 turn_of n spread room = cond (leb (n * spread) room) (Ends (n * spread)) (Leaves (n - room / spread))
+
+-- r is the price n places above p, wherever p has its place: none above the last place
+pub record PlacesUp (l : List ℕ) (p n : ℕ) (r : Option ℕ) : Type 0 where
+  pub found : (k : ℕ) → price_at k l ≡ Some p → r ≡ price_at (k + n) l
 
 -- the ladder prices on either side of a threshold: the largest that, times scale, is below y, and the smallest that is not
 pub record Between (scale y : ℕ) (l : List ℕ) (gap : Gap) : Type 0 where

@@ -6,6 +6,7 @@
 
 mod search; // search.rt: the band where a threshold lands, and where a price stands
 mod turns; // turns.rt: one band of a walk
+mod rise; // rise.rt: so many places up, from a price of a band
 mod places; // places.rt: place to price, price to place
 mod steps; // steps.rt: n spreads up and down
 mod rounding; // rounding.rt: the ladder prices next to a threshold

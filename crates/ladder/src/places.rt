@@ -6,7 +6,6 @@ ghost use Rattle.ladder.specs.Places.{price_at, place_of};
 ghost use Rattle.ladder.specs.Arithmetic.{places_below};
 
 use super::table::SpreadTable;
-use super::turns::{Turn, turn_in};
 
 impl SpreadTable<'_> {
     // Whether a price is on the ladder.
@@ -20,19 +19,7 @@ impl SpreadTable<'_> {
     pub fn price_at(&self, place: u32) -> Option<u32>
         ensures { result ≡ price_at place (prices_of self.now) }
     {
-        let mut left = u64::from(place);
-        for band in self.bands {
-            let turn = turn_in(left, band.spread, band.top - band.bottom);
-            match turn {
-                Turn::Ends(mils) => {
-                    return Some(band.bottom + mils);
-                }
-                Turn::Leaves(rest) => {
-                    left = rest;
-                }
-            }
-        }
-        None
+        self.rise(0, self.first_price(), u64::from(place))
     }
 
     // How many places lie below the band with this index.

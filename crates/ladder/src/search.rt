@@ -20,7 +20,7 @@ fn count_below(bands: &[Band], scale: u32, y: u64) -> usize
 {
     let mut below = 0;
     for band in bands {
-        below += (product(scale, band.top) < y) as usize;
+        below += usize::from(product(scale, band.top) < y);
     }
     below
 }

@@ -2,34 +2,12 @@
 ghost use Rattle.std.specs.Prelude.{◌≡◌};
 ghost use Rattle.ladder.specs.Layout.{prices_of};
 ghost use Rattle.ladder.specs.Arithmetic.{StandsIn};
-ghost use Rattle.ladder.specs.Spreads.{times, spread_up, spread_down, spreads_up, spreads_down};
+ghost use Rattle.ladder.specs.Spreads.{times, spread_down, spreads_up, spreads_down};
 
 use super::table::SpreadTable;
 use super::turns::{Turn, turn_in};
 
 impl SpreadTable<'_> {
-    // The price n spreads above a price of the band with this index.
-    fn walk_up(&self, index: usize, price: u32, n: u64) -> u32
-        requires { StandsIn self.now.bands.now index price }
-        ensures { result ≡ times n (spread_up (prices_of self.now)) price }
-    {
-        let mut at = price;
-        let mut left = n;
-        for band in &self.bands[index..] {
-            let turn = turn_in(left, band.spread, band.top - at);
-            match turn {
-                Turn::Ends(mils) => {
-                    return at + mils;
-                }
-                Turn::Leaves(rest) => {
-                    at = band.top;
-                    left = rest;
-                }
-            }
-        }
-        at
-    }
-
     // The price n spreads below a price of the band with this index.
     fn walk_down(&self, index: usize, price: u32, n: u64) -> u32
         requires { StandsIn self.now.bands.now index price }
@@ -57,7 +35,7 @@ impl SpreadTable<'_> {
         ensures { result ≡ spreads_up (prices_of self.now) price n }
     {
         let index = self.standing_of(price)?;
-        Some(self.walk_up(index, price, n))
+        Some(self.rise(index, price, n).unwrap_or(self.last_price()))
     }
 
     // The price n spreads down, halting at the first; none from a price off the ladder.

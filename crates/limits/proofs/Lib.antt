@@ -1,2 +1,3 @@
--- Laws: what other crates see.
+-- Laws: what other crates see. Either: what holds of the two limits alike.
 pub mod Laws
+mod Either

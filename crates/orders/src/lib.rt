@@ -2,57 +2,20 @@
 #![tactic(auto)]
 
 ghost use Rattle.std.specs.Prelude.{◌≡◌};
+ghost use Rattle.questions.specs.Missing.{reference_of};
 ghost use Rattle.questions.specs.Record.{bytes_of};
-ghost use Rattle.orders.specs.Orders.{bare, references, asked};
+ghost use Rattle.orders.specs.Orders.{bare, asked};
 
 use questions::{Codes, QUESTION_BYTES, Question, Reference, References, encoding};
 
-// A bid and an ask.
-#[derive(Clone, Copy, Debug, PartialEq, Eq)]
-pub struct Quotes {
-    pub bid: u32,
-    pub ask: u32,
-}
-
-// The day's low and high.
-#[derive(Clone, Copy, Debug, PartialEq, Eq)]
-pub struct DayRange {
-    pub low: u32,
-    pub high: u32,
-}
-
-// All of a question but its order price. Prices are mils; 0 is a missing reference.
+// All of a question but its order price.
 #[derive(Clone, Copy, Debug, PartialEq, Eq)]
 pub struct Order {
     pub codes: Codes,
-    pub current: Quotes,
-    pub last: Quotes,
-    pub close: u32,
-    pub day: DayRange,
-    pub nominal: u32,
+    pub references: References,
 }
 
-// The codes are numbers of a question's bytes, and no enums: orders with a code that means nothing are tried too, as side 3.
-pub const BUY: u8 = 1;
-
-pub const SELL: u8 = 2;
-
-pub const LIMIT: u8 = 1;
-
-pub const ENHANCED: u8 = 2;
-
-pub const SPECIAL: u8 = 3;
-
-pub const OPENING: u8 = 1;
-
-pub const BOTH: u8 = 2;
-
-pub const BUY_ONLY: u8 = 3;
-
-pub const SELL_ONLY: u8 = 4;
-
-pub const NEITHER: u8 = 5;
-
+// Prices are mils; a price of 0 makes the reference missing.
 impl Order {
     // With no reference.
     pub fn new(side: u8, order_type: u8, queue: u8) -> Order
@@ -65,74 +28,66 @@ impl Order {
                 queue,
                 byte_3: 0,
             },
-            current: Quotes { bid: 0, ask: 0 },
-            last: Quotes { bid: 0, ask: 0 },
-            close: 0,
-            day: DayRange { low: 0, high: 0 },
-            nominal: 0,
+            references: References::default(),
         }
     }
 
     // With this bid and ask.
     pub fn quotes(self, bid: u32, ask: u32) -> Order
-        ensures { result ≡ record self { current = record { bid = bid; ask = ask } } }
+        ensures { result ≡ record self { references = record self.references { current_bid = reference_of bid; current_ask = reference_of ask } } }
     {
-        Order {
-            current: Quotes { bid, ask },
-            ..self
-        }
+        let references = References {
+            current_bid: Reference::from(bid),
+            current_ask: Reference::from(ask),
+            ..self.references
+        };
+        Order { references, ..self }
     }
 
     // With this last bid and last ask.
     pub fn last_quotes(self, bid: u32, ask: u32) -> Order
-        ensures { result ≡ record self { last = record { bid = bid; ask = ask } } }
+        ensures { result ≡ record self { references = record self.references { last_bid = reference_of bid; last_ask = reference_of ask } } }
     {
-        Order {
-            last: Quotes { bid, ask },
-            ..self
-        }
+        let references = References {
+            last_bid: Reference::from(bid),
+            last_ask: Reference::from(ask),
+            ..self.references
+        };
+        Order { references, ..self }
     }
 
     // With this previous close.
     pub fn close(self, close: u32) -> Order
-        ensures { result ≡ record self { close = close } }
+        ensures { result ≡ record self { references = record self.references { previous_close = reference_of close } } }
     {
-        Order { close, ..self }
+        let references = References {
+            previous_close: Reference::from(close),
+            ..self.references
+        };
+        Order { references, ..self }
     }
 
     // With this day low and day high.
     pub fn day(self, low: u32, high: u32) -> Order
-        ensures { result ≡ record self { day = record { low = low; high = high } } }
+        ensures { result ≡ record self { references = record self.references { day_low = reference_of low; day_high = reference_of high } } }
     {
-        Order {
-            day: DayRange { low, high },
-            ..self
-        }
+        let references = References {
+            day_low: Reference::from(low),
+            day_high: Reference::from(high),
+            ..self.references
+        };
+        Order { references, ..self }
     }
 
     // With this nominal price.
     pub fn nominal(self, nominal: u32) -> Order
-        ensures { result ≡ record self { nominal = nominal } }
+        ensures { result ≡ record self { references = record self.references { nominal = reference_of nominal } } }
     {
-        Order { nominal, ..self }
-    }
-}
-
-// The references of an order.
-impl From<Order> for References {
-    ghost from_gives = { λ order found. found ≡ references order };
-
-    fn from(order: Order) -> References {
-        References {
-            current_bid: Reference::from(order.current.bid),
-            current_ask: Reference::from(order.current.ask),
-            last_bid: Reference::from(order.last.bid),
-            last_ask: Reference::from(order.last.ask),
-            previous_close: Reference::from(order.close),
-            day_low: Reference::from(order.day.low),
-            day_high: Reference::from(order.day.high),
-            nominal: Reference::from(order.nominal),
-        }
+        let references = References {
+            nominal: Reference::from(nominal),
+            ..self.references
+        };
+        Order { references, ..self }
     }
 }
 
@@ -143,6 +98,6 @@ pub fn question(order: Order, price: u32) -> [u8; QUESTION_BYTES]
     encoding::encode(Question {
         codes: order.codes,
         price,
-        references: References::from(order),
+        references: order.references,
     })
 }

@@ -20,9 +20,9 @@ fn put_line(text: &mut Filling, number: u64, answer: Answer)
     ensures line { Written (line number answer) text.old text.new }
     ensures room { text.old.start ≤ text.new.start + line_room }
 {
-    text.put_field(answer.highest as u64, b'\n');
-    text.put_field(answer.lowest as u64, b' ');
-    text.put_field(answer.number as u64, b' ');
+    text.put_field(u64::from(answer.highest), b'\n');
+    text.put_field(u64::from(answer.lowest), b' ');
+    text.put_field(u64::from(answer.number), b' ');
     text.put_field(number, b' ');
 }
 
@@ -60,12 +60,12 @@ fn put_left(text: &mut Filling, left: usize)
 fn is_refused(first: u64, asked: usize, room: usize) -> bool
     ensures { result ≡ page_refused first asked room }
 {
-    if room < LEFT_ROOM {
+    let Some(room) = room.checked_sub(LEFT_ROOM) else {
         return true;
-    }
+    };
     let count = asked / QUESTION_BYTES;
-    let most = (room - LEFT_ROOM) / LINE_ROOM;
-    (count > most) | (first > u64::MAX - count as u64)
+    let most = room / LINE_ROOM;
+    (count > most) | first.checked_add(count as u64).is_none()
 }
 
 // Writes a page at the end of the text, and answers where it begins; none where it is refused.

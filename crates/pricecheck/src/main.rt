@@ -117,9 +117,8 @@ fn first_of(index: u32) -> u64
 }
 
 // Makes the page of the questions of a piece, at the end of the text. Answers where it begins. It is never refused: the law `pieces_fit`.
-fn page_of(index: u32, questions: &[u8], text: &mut [u8]) -> usize
-    requires fits { length questions.now ≤ piece_bytes }
-    requires whole_text { length text.old ≡ text_bytes }
+fn page_of(index: u32, questions: &[u8], text: &mut [u8; TEXT_BYTES]) -> usize
+    requires { length questions.now ≤ piece_bytes }
     ensures inside { result ≤ text_bytes }
     ensures page { drop result text.new ≡ page_from (first_of index) questions.now }
 {
@@ -146,11 +145,9 @@ fn answer_piece(
     reader: &mut impl Read,
     writer: &mut impl Write,
     index: u32,
-    piece: &mut [u8],
-    text: &mut [u8],
+    piece: &mut [u8; PIECE_BYTES],
+    text: &mut [u8; TEXT_BYTES],
 ) -> Outcome
-    requires whole_piece { length piece.old ≡ piece_bytes }
-    requires whole_text { length text.old ≡ text_bytes }
     ensures { EndsWith text.new (page_from (first_of index) (answered_part result.input.has_failed result.input.bytes piece.new)) }
 {
     let input = fill(rt, reader, piece);

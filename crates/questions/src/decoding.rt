@@ -2,13 +2,12 @@
 ghost use Rattle.std.specs.Prelude.{◌≡◌, ◌+◌, ◌≤◌, length};
 ghost use Rattle.little_endian.specs.Numbers.{number};
 ghost use Rattle.questions.specs.Missing.{reference_of};
-ghost use Rattle.questions.specs.Record.{question_bytes, codes_of, references_of, decoded};
+ghost use Rattle.questions.specs.Record.{codes_of, references_of, decoded};
 
 use super::{Codes, QUESTION_BYTES, Question, Reference, References};
 
 #[tactic(auto, unfolding(crate::specs::Record::codes_of))]
-fn codes_of(s: &[u8]) -> Codes
-    requires { length s.now ≡ question_bytes }
+fn codes_of(s: &[u8; QUESTION_BYTES]) -> Codes
     ensures { result ≡ codes_of s.now }
 {
     Codes {
@@ -27,8 +26,7 @@ fn reference_at(s: &[u8], at: usize) -> Reference
 }
 
 #[tactic(auto, unfolding(crate::specs::Record::references_of))]
-fn references_of(s: &[u8]) -> References
-    requires { length s.now ≡ question_bytes }
+fn references_of(s: &[u8; QUESTION_BYTES]) -> References
     ensures { result ≡ references_of s.now }
 {
     References {
@@ -47,12 +45,10 @@ fn references_of(s: &[u8]) -> References
 pub fn decode(s: &[u8]) -> Option<Question>
     ensures { result ≡ decoded s.now }
 {
-    if s.len() != QUESTION_BYTES {
-        return None;
-    }
+    let record = s.as_array()?;
     Some(Question {
-        codes: codes_of(s),
-        price: little_endian::number_at(s, 4),
-        references: references_of(s),
+        codes: codes_of(record),
+        price: little_endian::number_at(record, 4),
+        references: references_of(record),
     })
 }

@@ -7,19 +7,21 @@ pub mod decoding; // decoding.rt: a question from its bytes
 pub mod encoding; // encoding.rt: the bytes of a question
 mod missing; // missing.rt: references, each a price or missing
 pub mod checks; // checks.rt: references off the ladder, and pairs of a low and a high
+pub mod code_names; // code_names.rt: the names of a question's codes
 
 // How many bytes a question has.
 pub const QUESTION_BYTES: usize = 40;
 
 // A reference: a price, or missing.
-#[derive(Clone, Copy, Debug, PartialEq, Eq)]
+#[derive(Clone, Copy, Debug, Default, PartialEq, Eq)]
 pub enum Reference {
+    #[default]
     Missing,
     Price(u32),
 }
 
 // The eight references of a question.
-#[derive(Clone, Copy, Debug, PartialEq, Eq)]
+#[derive(Clone, Copy, Debug, Default, PartialEq, Eq)]
 pub struct References {
     pub current_bid: Reference,
     pub current_ask: Reference,

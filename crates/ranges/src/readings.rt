@@ -19,7 +19,7 @@ pub fn reading_of(terms: &Terms, codes: Codes, references: References) -> Readin
     if chosen.queues.disagree(references) {
         return Err(Refusal::Disagreement);
     }
-    if chosen.rule.is_unopposed(chosen.queues) {
+    if chosen.is_unopposed() {
         return Err(Refusal::NoOpposite);
     }
     Ok(permitted::range_of(terms, chosen, references))

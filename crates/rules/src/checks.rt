@@ -2,7 +2,7 @@
 ghost use Rattle.std.specs.Prelude.{◌≡◌};
 ghost use Rattle.rules.specs.Checks.{buy_queue, sell_queue, locked_or_crossed, quoted_before, disagree, unopposed};
 
-use super::{Queues, Rule};
+use super::{Chosen, Queues, Rule};
 use questions::{Reference, References, checks};
 
 impl Queues {
@@ -47,14 +47,14 @@ impl Queues {
     }
 }
 
-impl Rule {
+impl Chosen {
     // Whether a special order has no opposite queue.
-    pub fn is_unopposed(self, queues: Queues) -> bool
-        ensures { result ≡ unopposed self queues }
+    pub fn is_unopposed(self) -> bool
+        ensures { result ≡ unopposed self.rule self.queues }
     {
-        match self {
-            Rule::BuySpecial => !queues.has_sell(),
-            Rule::SellSpecial => !queues.has_buy(),
+        match self.rule {
+            Rule::BuySpecial => !self.queues.has_sell(),
+            Rule::SellSpecial => !self.queues.has_buy(),
             Rule::BuyLimit | Rule::BuyEnhanced | Rule::SellLimit | Rule::SellEnhanced => false,
         }
     }

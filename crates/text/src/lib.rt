@@ -10,7 +10,7 @@ fn digit(d: u64) -> u8
     requires { d < 10 }
     ensures { result ≡ Decimal·digit d }
 {
-    48 + d as u8
+    b'0' + d as u8
 }
 
 // A text that is filled from its end: what is written stands from `start` on, and each method writes in front of it.

@@ -1,13 +1,13 @@
 // A day book, event by event, and orders that are filled from it, worked out by hand. Low(R) and High(R) stand beside each order.
 ghost use Rattle.std.specs.Prelude.{◌≡◌, IfOk};
-ghost use Rattle.orders.specs.declared.TheConstants.{LIMIT};
+ghost use Rattle.questions.specs.declared.code_names.TheConstants.{LIMIT};
 
 use super::reporting;
 use super::reporting::due;
 use daybook::{Day, Entered};
 use dayquestion::Order;
 use judging::Answer;
-use orders::{BUY, LIMIT, SELL};
+use questions::code_names::{BUY, LIMIT, SELL};
 use questions::{Reference, encoding};
 use std::io;
 

@@ -1,8 +1,9 @@
 // Lines beyond those of document 01, worked out by hand from its rules. Low(R) and High(R) stand beside each.
 use super::reporting;
 use super::reporting::due;
-use orders::{
-    BOTH, BUY, BUY_ONLY, ENHANCED, LIMIT, NEITHER, OPENING, Order, SELL, SELL_ONLY, SPECIAL,
+use orders::Order;
+use questions::code_names::{
+    BOTH, BUY, BUY_ONLY, ENHANCED, LIMIT, NEITHER, OPENING, SELL, SELL_ONLY, SPECIAL,
 };
 use std::io;
 use trades::judge_trade;

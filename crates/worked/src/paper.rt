@@ -4,7 +4,8 @@
 use super::reporting;
 use super::reporting::{due, outside};
 use limits::{lower_limit, upper_limit};
-use orders::{BOTH, BUY, BUY_ONLY, ENHANCED, LIMIT, NEITHER, Order, SELL, SELL_ONLY};
+use orders::Order;
+use questions::code_names::{BOTH, BUY, BUY_ONLY, ENHANCED, LIMIT, NEITHER, SELL, SELL_ONLY};
 use std::io;
 use trades::judge_trade;
 

@@ -1,7 +1,8 @@
 // The programs of document 01 that would look finished: their answers must not come out.
 use super::reporting;
 use super::reporting::due;
-use orders::{BUY, BUY_ONLY, LIMIT, Order, SELL_ONLY};
+use orders::Order;
+use questions::code_names::{BUY, BUY_ONLY, LIMIT, SELL_ONLY};
 use std::io;
 
 // 24 times the spread at the reference; 5 percent to the nearest spread; rounding by the reference's spread.

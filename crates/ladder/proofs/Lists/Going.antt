@@ -1,5 +1,6 @@
 -- Going by places: n spreads up or down from a place of a rising list.
-use Rattle.std.specs.Prelude.{Some}
+use Rattle.std.specs.Prelude.{Option, Some, None}
+use Rattle.std.specs.Option.{unwrap_or}
 use mathlib.Core.Path.{◌≡◌, refl, ap, sym, ◌∙◌}
 use Prim.Native.Nat.{ℕ, zero, suc, ◌+◌, ◌-◌, min, ◌≤◌}
 use native.Mathlib.Decide.{dec_le}
@@ -8,8 +9,10 @@ use mathlib.Core.List.{List}
 use lib.ListN.{length}
 use Rattle.ladder.specs.Places.{price_at, first_price, last_price}
 use Rattle.ladder.specs.Spreads.{spread_up, spread_down, times}
-use Rattle.facts.specs.Lists.{Rising}
-use Rattle.ladder.proofs.Lists.Entries.{next_at, at_place, entry_below, first_entry, last_entry}
+use Rattle.facts.specs.Lists.{holds, Rising}
+use Rattle.ladder.specs.Arithmetic.{PlacesUp}
+use lib.Dec.{T}
+use Rattle.ladder.proofs.Lists.Entries.{next_at, at_place, held_entry, entry_below, past, first_entry, last_entry}
 use Rattle.ladder.proofs.Lists.Moves.{spread_up_lem, spread_down_lem, up_stays, down_stays}
 
 -- a price at an equal place
@@ -44,3 +47,22 @@ module _ (l : List ℕ) (r : Rising l) where
   unfolding times
   downs_entry zero k p e = at l (omega arith) refl e
   downs_entry (suc n) k p e = at l (omega arith) refl (downs_entry n (k - 1) (spread_down l p) (down_entry k p e))
+
+  -- so many places up, or the last price where there are not so many, is as many spreads up
+  pub rise_halts : (n p : ℕ) → T (holds p l) → (v : Option ℕ) → PlacesUp l p n v → unwrap_or v (last_price l) ≡ times n (spread_up l) p
+  rise_halts n p on v up = go (held_entry l p on)
+    where
+      go : (k : ℕ) × (price_at k l ≡ Some p) → unwrap_or v (last_price l) ≡ times n (spread_up l) p
+      go e = cases (dec_le (suc (e.0 + n)) (length l))
+        where
+          risen : price_at (min (e.0 + n) (length l - 1)) l ≡ Some (times n (spread_up l) p)
+          risen = ups_entry n e.0 p e.1
+
+          cases : Dec (suc (e.0 + n) ≤ length l) → unwrap_or v (last_price l) ≡ times n (spread_up l) p
+          cases (yes h) =
+              let found : v ≡ Some (times n (spread_up l) p) = up.found e.0 e.1 ∙ at l (omega arith) refl risen in
+              rw found
+          cases (no h) =
+              let none : v ≡ None = up.found e.0 e.1 ∙ past l (e.0 + n) (omega arith) in
+              rw none
+              (sym (last_entry l (min (e.0 + n) (length l - 1)) _ risen (omega (arith, entry_below l e.0 p e.1))))

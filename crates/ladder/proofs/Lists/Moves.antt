@@ -1,6 +1,6 @@
 -- Rounding and spreads on a rising list, told by neighbours and ends. No bands here.
 use Rattle.std.specs.Prelude.{Some, None}
-use mathlib.Core.Path.{◌≡◌, refl, ap}
+use mathlib.Core.Path.{◌≡◌, ap}
 use Prim.Native.Nat.{ℕ, zero, suc, ◌+◌, ◌*◌, ◌≤◌, ◌<◌}
 use native.Mathlib.Nat.{zero-add, suc-add, mul-le-mul_left}
 use native.Mathlib.Decide.{dec_le}
@@ -97,16 +97,3 @@ pub times_add : (step : ℕ → ℕ) (n m p : ℕ) → times (n + m) step p ≡ 
 unfolding times
 times_add step zero m p = rw zero-add
 times_add step (suc n) m p = rw suc-add (times_add step n m (step p))
-
--- along a path of single steps n of them lead n places on
-pub times_along : (step pos : ℕ → ℕ) (last : ℕ) → ((i : ℕ) → i < last → step (pos i) ≡ pos (suc i)) →
-    (n i j : ℕ) → j ≡ i + n → j ≤ last → times n step (pos i) ≡ pos j
-unfolding times
-times_along step pos last along zero i j e h = ap pos (omega arith)
-times_along step pos last along (suc n) i j e h =
-    rw (along i (omega arith)) (times_along step pos last along n (suc i) j (omega arith) h)
-
-pub times_stays : (step : ℕ → ℕ) (p : ℕ) → step p ≡ p → (n : ℕ) → times n step p ≡ p
-unfolding times
-times_stays step p e zero = refl
-times_stays step p e (suc n) = rw e (times_stays step p e n)

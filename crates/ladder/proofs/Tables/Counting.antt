@@ -1,8 +1,8 @@
 -- Places counted band by band.
 use Rattle.std.specs.Prelude.{Some, None}
 use mathlib.Core.Path.{◌≡◌, ap, sym, ◌∙◌}
-use Prim.Native.Nat.{ℕ, suc, ◌+◌, ◌-◌, ◌*◌, ◌/◌, ◌%◌, ◌≤◌, ◌<◌}
-use native.Mathlib.Nat.{div-le_self, div-eq_of_eq-mul_left, le-mul_of_pos_right, le_of_mul-le-mul_right, lt_of_mul-lt-mul_right}
+use Prim.Native.Nat.{ℕ, suc, ◌+◌, ◌-◌, ◌/◌, ◌%◌, ◌≤◌, ◌<◌}
+use native.Mathlib.Nat.{div-le_self, div-eq_of_eq-mul_left, le-mul_of_pos_right}
 use native.Mathlib.Numerals.{add-one}
 use native.Mathlib.Omega.{arith}
 use mathlib.Core.List.{List}
@@ -31,18 +31,6 @@ module _ (t : List Band) (wf : T (well_formed t)) (k : ℕ) (h : k < length t) (
 
   pub places_more : places_below (k + 1) t ≡ places_below k t + width b
   places_more = rw (add-one, f) (below_more t k h)
-
-  -- spreads that do not fit into the band are more than it has
-  pub places_past : (i : ℕ) → b.top - b.bottom < i * b.spread → width b < i
-  places_past i m = lt_of_mul-lt-mul_right b.spread (omega (arith, w.divides))
-
-  -- the price at a place of the band, and past the last band
-  pub price_here : (i : ℕ) → i * b.spread ≤ b.top - b.bottom →
-      Some (b.bottom + i * b.spread) ≡ price_at (places_below k t + i) (ladder t)
-  price_here i m =
-      let within : i ≤ width b = le_of_mul-le-mul_right (omega (arith, w.divides, w.rises)) w.spreads in
-      let same : i * b.spread + b.bottom ≡ b.bottom + i * b.spread = omega arith in
-      sym (band_entry_at t wf k h b f i within ∙ ap Some same)
 
   -- the place of a price of the band
   module _ (p : ℕ) (on : StandsIn t k p) where

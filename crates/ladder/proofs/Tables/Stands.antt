@@ -1,6 +1,6 @@
 -- The band of a ladder price: the band where it lands, which it exceeds by a multiple of its spread.
 use Rattle.std.specs.Prelude.{Option, Some, None}
-use mathlib.Core.Path.{◌≡◌, refl, sym, ap}
+use mathlib.Core.Path.{◌≡◌, refl, sym, ap, ◌∙◌}
 use Prim.Native.Nat.{ℕ, suc, ◌+◌, ◌-◌, ◌*◌, ◌/◌, ◌%◌, ◌≤◌, ◌<◌}
 use native.Mathlib.Nat.{div-add-mod', mod-lt, eq-zero-or-pos, lt_of_mul-lt-mul_right}
 use native.Mathlib.Omega.{arith}
@@ -15,19 +15,20 @@ use Rattle.ladder.specs.declared.Band.{Band}
 use Rattle.ladder.specs.Bands.{well_formed}
 use Rattle.ladder.specs.Ladder.{width, ladder}
 use Rattle.facts.specs.Lists.{holds}
+use Rattle.ladder.specs.Spreads.{if_held}
 use Rattle.ladder.specs.Arithmetic.{bands_below, standing_of}
 use Rattle.ladder.specs.Arithmetic.{StandsIn}
 use Rattle.facts.proofs.Tests.{passed, failed}
 use Rattle.ladder.proofs.Lists.Ends.{over_first, under_last}
 use Rattle.ladder.proofs.Tables.Chain.{Whole, band_at}
-use Rattle.ladder.proofs.Tables.Table.{Index, index_of, table_facts, start, ladder_rises, first_is_start, last_listed, entry_on}
+use Rattle.ladder.proofs.Tables.Table.{Index, index_in, table_facts, start, ladder_rises, first_is_start, last_listed, entry_on}
 use Rattle.ladder.proofs.Tables.Table.{entries_next, is_whole}
 use Rattle.ladder.proofs.Tables.Landing.{lands_under, lands_over, lands_inside}
 
 module _ (t : List Band) (wf : T (well_formed t)) (p : ℕ) where
   -- a price that stands in a band is on the ladder
   pub in_band_held : (k : ℕ) → StandsIn t k p → T (holds p (ladder t))
-  in_band_held k on = go (index_of (band_at t k) p (is_whole t wf k on.index) on.low on.high on.multiple)
+  in_band_held k on = go (index_in t wf k on.index p on)
     where
       go : Index (band_at t k) p → T (holds p (ladder t))
       go x = rw x.is (entry_on t wf k on.index x.i x.within)
@@ -128,3 +129,17 @@ module _ (t : List Band) (wf : T (well_formed t)) (p : ℕ) where
 
   pub standing_off : standing_of p t ≡ None → T (holds p (ladder t)) → ⊥
   standing_off e = standing_cases None e (λ on i. absurd (grind arith)) (λ off i. off)
+
+-- what the answer of the search tells a walk from p: where it stands, and that a step is answered; or that it is not
+pub record Stood (t : List Band) (p : ℕ) (standing : Option ℕ) : Type 0 where
+  pub stands_in : (k : ℕ) → standing ≡ Some k → StandsIn t k p
+  pub answers : (k : ℕ) → standing ≡ Some k → (answer : ℕ) → Some answer ≡ if_held p (ladder t) answer
+  pub no_answer : standing ≡ None → (answer : ℕ) → None ≡ if_held p (ladder t) answer
+
+pub stood : (t : List Band) → T (well_formed t) → (p : ℕ) (standing : Option ℕ) → standing ≡ standing_of p t → Stood t p standing
+stood t wf p standing is =
+    record {
+      stands_in = λ k e. standing_stands t wf p k (sym is ∙ e);
+      answers = λ k e answer. rw (passed (holds p (ladder t)) (standing_held t wf p k (sym is ∙ e)));
+      no_answer = λ e answer. rw (failed (holds p (ladder t)) (standing_off t wf p (sym is ∙ e)));
+    }

@@ -11,7 +11,7 @@ use Rattle.ladder.specs.declared.Band.{Band}
 use Rattle.ladder.specs.Bands.{chained, well_formed}
 use Rattle.ladder.specs.Ladder.{width, band_prices, ladder}
 use Rattle.facts.specs.Lists.{holds, Rising}
-use Rattle.ladder.specs.Arithmetic.{places_below}
+use Rattle.ladder.specs.Arithmetic.{StandsIn, places_below}
 use Rattle.ladder.specs.Places.{price_at, last_after, first_price, last_price}
 use Rattle.facts.proofs.Tests.{and_left, and_right}
 use Rattle.facts.proofs.Lists.{held_first, Next}
@@ -96,6 +96,9 @@ module _ (t : List Band) (wf : T (well_formed t)) where
 
     pub is_whole : Whole (band_at t k)
     is_whole = band_whole (start t) t (table_facts t wf).chain k h
+
+    pub index_in : (p : ℕ) → StandsIn t k p → Index (band_at t k) p
+    index_in p on = index_of (band_at t k) p is_whole on.low on.high on.multiple
 
     pub band_facts : (b : Band) → b ≡ band_at t k → Whole b
     band_facts b e = rw e is_whole

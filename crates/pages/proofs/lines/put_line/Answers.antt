@@ -6,6 +6,9 @@ use Rattle.pages.proofs.lines.put_line.Goals as goal
 pub returns-clause-line : goal.returns-clause-line
 unfolding line
 returns-clause-line c =
-    let first_two = text_laws.written_in_front _ _ _ _ _ c.put_field-3.ensures c.put_field-4.ensures in
-    let first_three = text_laws.written_in_front _ _ _ _ _ c.put_field-2.ensures first_two in
-    text_laws.written_in_front _ _ _ _ _ c.put_field.ensures first_three
+    let highest = rw c.from.ensures at c.put_field.ensures in
+    let lowest = rw c.from-2.ensures at c.put_field-2.ensures in
+    let number = rw c.from-3.ensures at c.put_field-3.ensures in
+    let first_two = text_laws.written_in_front _ _ _ _ _ number c.put_field-4.ensures in
+    let first_three = text_laws.written_in_front _ _ _ _ _ lowest first_two in
+    text_laws.written_in_front _ _ _ _ _ highest first_three
