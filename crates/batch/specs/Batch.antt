@@ -28,9 +28,9 @@ answers_to l percent (suc n) s = answers_to l percent n s ++ encoded (judged l p
 abbrev pub answered : Prices → Percentage → ℕ → Bytes → Bytes → Bytes
 answered l percent n s a = answers_to l percent n s ++ drop (n * answer_bytes) a
 
--- how many questions are judged, or that the batch is turned away
-abbrev pub counted : Bytes → Bytes → Result ℕ TurnedAway
-counted s a = cond (refused (length s) (length a)) (Err (record {})) (Ok (count_of (length s)))
+-- how many questions are judged, or that the batch is turned away, by the bytes of the batch and of the buffer
+abbrev pub counted : ℕ → ℕ → Result ℕ TurnedAway
+counted asked room = cond (refused asked room) (Err (record {})) (Ok (count_of asked))
 
 -- "the number of questions is returned with number 0"; with number 1 "Count 0"
 abbrev pub outcome_by : Result ℕ TurnedAway → Outcome
@@ -38,7 +38,7 @@ outcome_by (Ok n) = record { number = 0; count = n }
 outcome_by (Err e) = record { number = 1; count = 0 }
 
 abbrev pub outcome_of : Bytes → Bytes → Outcome
-outcome_of s a = outcome_by (counted s a)
+outcome_of s a = outcome_by (counted (length s) (length a))
 
 -- the buffer after the call, where it was a before; with number 1 "buffer untouched"
 abbrev pub buffer_after : Prices → Percentage → Bytes → Bytes → Bytes

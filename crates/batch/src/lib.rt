@@ -7,7 +7,7 @@
 pub mod batches; // batches.rt: the checks on a batch, and its answers one after the other
 mod encoding; // encoding.rt: an answer as 12 bytes
 
-ghost use Rattle.std.specs.Prelude.{◌≡◌};
+ghost use Rattle.std.specs.Prelude.{◌≡◌, length};
 ghost use Rattle.ladder.specs.Bands.{phase1};
 ghost use Rattle.ladder.specs.Ladder.{ladder};
 ghost use Rattle.limits.specs.Limits.{five_percent};
@@ -54,7 +54,7 @@ impl From<Result<u32, TurnedAway>> for Outcome {
 // after the last answer keep their content. Bytes that are no batch, or a buffer that is too short, are turned away: the buffer then keeps
 // every byte.
 pub fn judge_batch(questions: &[u8], answers: &mut [u8]) -> Result<u32, TurnedAway>
-    ensures count { result ≡ counted questions.now answers.old }
+    ensures count { result ≡ counted (length questions.now) (length answers.old) }
     ensures buffer { answers.new ≡ buffer_after (ladder phase1) five_percent questions.now answers.old }
 {
     batches::judge(&usual(), questions, answers)

@@ -11,7 +11,7 @@ ghost use Rattle.batch.specs.Batch.{outcome_of, buffer_after};
 
 use batch::Outcome;
 
-// As batch::judge_batch, for C, where a slice is a pointer and a length.
+// As batch::judge_batch, for C, where a slice is a pointer and a length, and what is answered an `Outcome`.
 #[unsafe(no_mangle)]
 pub extern "C" fn hendovita_judge_batch(questions: &[u8], answers: &mut [u8]) -> Outcome
     ensures outcome { result ≡ outcome_of questions.now answers.old }

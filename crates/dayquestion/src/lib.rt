@@ -40,7 +40,7 @@ pub fn question(day: Day, order: Order) -> Question
 #[derive(Clone, Copy, Debug, PartialEq, Eq)]
 pub struct WrongLength;
 
-// The same as bytes. Room of another length is refused, and keeps every byte.
+// The question of an order as bytes. Room of another length is refused, and keeps every byte.
 pub fn fill(day: Day, order: Order, room: &mut [u8]) -> Result<(), WrongLength>
     ensures result { result ≡ fill_result room.old }
     ensures bytes { room.new ≡ filled day order room.old }

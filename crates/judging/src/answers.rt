@@ -1,4 +1,4 @@
-// The numbers of refusals and verdicts, and the answers.
+// A refusal or a verdict as its number, and the answers.
 ghost use Rattle.std.specs.Prelude.{◌≡◌, Some};
 ghost use Rattle.ladder.specs.Layout.{prices_of};
 ghost use Rattle.judging.specs.Verdicts.{verdict_of};

@@ -6,7 +6,7 @@
 
 pub mod showing; // showing.rt: the nine-fold rule and the shown range
 pub mod verdicts; // verdicts.rt: the verdict on a price
-pub mod answers; // answers.rt: the numbers of refusals and verdicts, and the answers
+pub mod answers; // answers.rt: a refusal or a verdict as its number, and the answers
 mod permitted; // permitted.rt: a range that a reading permits
 
 ghost use Rattle.std.specs.Prelude.{◌≡◌};

@@ -11,9 +11,7 @@ use ranges::Range;
 pub fn is_outside(table: &SpreadTable, price: u32) -> bool
     ensures { result ≡ outside (prices_of table.now) price }
 {
-    let first = table.first_price();
-    let last = table.last_price();
-    (price < first) | (last < price)
+    !(table.first_price()..=table.last_price()).contains(&price)
 }
 
 // The verdict on a price.

@@ -14,8 +14,7 @@ impl SpreadTable<'_> {
         let mut at = price;
         let mut left = n;
         for band in &self.bands[index..] {
-            let turn = turn_in(left, band.spread, band.top - at);
-            match turn {
+            match turn_in(left, band.spread, band.top - at) {
                 Turn::Ends(mils) => {
                     return Some(at + mils);
                 }

@@ -40,8 +40,7 @@ impl SpreadTable<'_> {
         ensures { result ≡ bands_below scale y self.now.bands.now }
     {
         let half = self.bands.len() / 2;
-        let tried = first_from(&self.bands[..half], scale, y);
-        match tried {
+        match first_from(&self.bands[..half], scale, y) {
             Some(k) => k,
             None => half + count_below(&self.bands[half..], scale, y),
         }

@@ -16,8 +16,7 @@ impl SpreadTable<'_> {
         let mut at = price;
         let mut left = n;
         for band in self.bands[..=index].iter().rev() {
-            let turn = turn_in(left, band.spread, at - band.bottom);
-            match turn {
+            match turn_in(left, band.spread, at - band.bottom) {
                 Turn::Ends(mils) => {
                     return at - mils;
                 }

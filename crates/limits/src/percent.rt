@@ -31,21 +31,17 @@ impl Terms<'_> {
     pub fn percent_lower(&self, reference: u32) -> Option<u32>
         ensures { result ≡ percent_lower_found (prices_of self.now.table) self.now.percentage reference }
     {
-        if self.table.holds(reference) {
-            Some(self.rounded_up(reference))
-        } else {
-            None
-        }
+        self.table
+            .holds(reference)
+            .then_some(self.rounded_up(reference))
     }
 
     // The upper percentage limit; none from a reference off the ladder.
     pub fn percent_upper(&self, reference: u32) -> Option<u32>
         ensures { result ≡ percent_upper_found (prices_of self.now.table) self.now.percentage reference }
     {
-        if self.table.holds(reference) {
-            Some(self.rounded_down(reference))
-        } else {
-            None
-        }
+        self.table
+            .holds(reference)
+            .then_some(self.rounded_down(reference))
     }
 }

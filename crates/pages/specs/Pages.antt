@@ -21,6 +21,10 @@ left_room = 8
 abbrev pub page_refused : ℕ → ℕ → ℕ → Bool
 page_refused first asked room = ltb room (count_of asked * line_room + left_room) || ltb 18446744073709551615 (first + count_of asked)
 
+-- how many questions a page has, by the same numbers; none where it is refused
+abbrev pub page_count : ℕ → ℕ → ℕ → Option ℕ
+page_count first asked room = cond (page_refused first asked room) None (Some (count_of asked))
+
 -- where the page stands: from there to the end of the text; none where it is refused
 abbrev pub page_place : Prices → Percentage → ℕ → Bytes → Text → Option ℕ
 page_place l percent first s text =

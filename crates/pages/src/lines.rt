@@ -4,7 +4,7 @@ ghost use Rattle.text.specs.Ending.{Written};
 ghost use Rattle.ladder.specs.Layout.{prices_of};
 ghost use Rattle.questions.specs.Record.{question_bytes};
 ghost use Rattle.pages.specs.Lines.{line, lines_to, left_line};
-ghost use Rattle.pages.specs.Pages.{line_room, left_room, page_refused, page_place, text_after};
+ghost use Rattle.pages.specs.Pages.{line_room, left_room, page_count, page_place, text_after};
 
 use super::{LEFT_ROOM, LINE_ROOM};
 use judging::Answer;
@@ -35,8 +35,7 @@ fn put_lines(terms: &Terms, questions: &[u8], count: usize, first: u64, text: &m
 {
     for k in (0..count).rev() {
         let start = k * QUESTION_BYTES;
-        let stop = start + QUESTION_BYTES;
-        let answer = judge_question(terms, &questions[start..stop]);
+        let answer = judge_question(terms, &questions[start..start + QUESTION_BYTES]);
         put_line(text, first + k as u64, answer);
     }
 }
@@ -56,16 +55,15 @@ fn put_left(text: &mut Filling, left: usize)
     text.put_word(b"left ");
 }
 
-// Whether a page is refused: by the number of its first question, the bytes of the questions and those of the text.
-fn is_refused(first: u64, asked: usize, room: usize) -> bool
-    ensures { result ≡ page_refused first asked room }
+// How many questions a page has, or none where it is refused: by the number of its first question, the bytes of the questions and those of
+// the text.
+fn count(first: u64, asked: usize, room: usize) -> Option<usize>
+    ensures { result ≡ page_count first asked room }
 {
-    let Some(room) = room.checked_sub(LEFT_ROOM) else {
-        return true;
-    };
     let count = asked / QUESTION_BYTES;
-    let most = room / LINE_ROOM;
-    (count > most) | first.checked_add(count as u64).is_none()
+    let most = room.checked_sub(LEFT_ROOM)? / LINE_ROOM;
+    first.checked_add(count as u64)?;
+    (count <= most).then_some(count)
 }
 
 // Writes a page at the end of the text, and answers where it begins; none where it is refused.
@@ -73,10 +71,7 @@ pub fn write(terms: &Terms, questions: &[u8], first: u64, text: &mut [u8]) -> Op
     ensures place { result ≡ page_place (prices_of terms.now.table) terms.now.percentage first questions.now text.old }
     ensures text { text.new ≡ text_after (prices_of terms.now.table) terms.now.percentage first questions.now text.old }
 {
-    if is_refused(first, questions.len(), text.len()) {
-        return None;
-    }
-    let count = questions.len() / QUESTION_BYTES;
+    let count = count(first, questions.len(), text.len())?;
     let mut filling = Filling::new(text);
     put_left(&mut filling, questions.len() % QUESTION_BYTES);
     put_lines(terms, questions, count, first, &mut filling);

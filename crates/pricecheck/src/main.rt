@@ -55,7 +55,7 @@ impl Outcome {
     }
 }
 
-// What a read answered, as input: how many bytes came, at most the room; or that it failed.
+// What a read answered: how many bytes came, at most the room; or that it failed.
 fn input_of(got: io::Result<usize>, part: &[u8]) -> io::Result<usize>
     ensures bytes { IfOk result (λ came. came ≡ clamp_len got (length part.now)) }
     ensures failed { read_failed result ≡ read_failed got }
@@ -152,11 +152,13 @@ fn answer_piece(
 {
     let input = fill(rt, reader, piece);
     let start = page_of(index, &piece[..input.answered_bytes()], text);
-    let written = print(writer, index, piece, input, &text[start..]);
-    let is_written = written.is_ok();
-    if let Err(error) = written {
-        say_failure(rt, "standard output", error);
-    }
+    let is_written = match print(writer, index, piece, input, &text[start..]) {
+        Ok(()) => true,
+        Err(error) => {
+            say_failure(rt, "standard output", error);
+            false
+        }
+    };
     Outcome { input, is_written }
 }
 

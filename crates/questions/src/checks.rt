@@ -19,7 +19,7 @@ impl Reference {
     }
 }
 
-// Whether any of some references is.
+// Whether any of some references is off the ladder.
 pub fn any_off(references: &[Reference], table: &SpreadTable) -> bool
     ensures { result ≡ list_any (is_off (prices_of table.now)) references.now }
 {
@@ -27,7 +27,7 @@ pub fn any_off(references: &[Reference], table: &SpreadTable) -> bool
 }
 
 impl References {
-    // Whether any of the eight is.
+    // Whether any of the eight is off the ladder.
     #[tactic(auto, unfolding(crate::specs::Checks::any_off))]
     pub fn any_off(self, table: &SpreadTable) -> bool
         ensures { result ≡ any_off (prices_of table.now) self }

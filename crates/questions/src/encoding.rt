@@ -12,8 +12,7 @@ fn with_number(mut bytes: [u8; QUESTION_BYTES], at: usize, number: u32) -> [u8; 
     requires { at + 4 ≤ question_bytes }
     ensures { result ≡ sets bytes at (four_bytes number) }
 {
-    let end = at + 4;
-    little_endian::put(&mut bytes[at..end], number);
+    little_endian::put(&mut bytes[at..at + 4], number);
     bytes
 }
 

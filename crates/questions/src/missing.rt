@@ -62,10 +62,7 @@ impl Reference {
     pub fn is_below(self, other: Reference) -> bool
         ensures { result ≡ is_below self other }
     {
-        match (self, other) {
-            (Reference::Price(x), Reference::Price(y)) => x < y,
-            (Reference::Missing, _) | (_, Reference::Missing) => false,
-        }
+        matches!((self, other), (Reference::Price(x), Reference::Price(y)) if x < y)
     }
 
     // The least of two.

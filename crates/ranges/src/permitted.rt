@@ -24,8 +24,7 @@ fn buy_reference(queues: Queues, close: Reference, low: Reference) -> Reference
 {
     match queues {
         Queues::Opening => close,
-        Queues::Both(bid, _) => bid,
-        Queues::BuyOnly(bid) => bid,
+        Queues::Both(bid, _) | Queues::BuyOnly(bid) => bid,
         Queues::SellOnly(ask) => ask.least(close.least(low)),
         Queues::Neither(_, last_ask) => {
             let least = last_ask.least(close.least(low));
@@ -40,9 +39,8 @@ fn sell_reference(queues: Queues, close: Reference, high: Reference) -> Referenc
 {
     match queues {
         Queues::Opening => close,
-        Queues::Both(_, ask) => ask,
+        Queues::Both(_, ask) | Queues::SellOnly(ask) => ask,
         Queues::BuyOnly(bid) => bid.greatest(close.greatest(high)),
-        Queues::SellOnly(ask) => ask,
         Queues::Neither(last_bid, _) => {
             let greatest = last_bid.greatest(close.greatest(high));
             unless_both_missing(close, high, greatest)

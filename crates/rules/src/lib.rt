@@ -6,6 +6,9 @@ mod checks; // checks.rt: references that disagree, special orders with no oppos
 ghost use Rattle.std.specs.Prelude.{◌≡◌};
 ghost use Rattle.rules.specs.Rules.{chosen, ask_of, bid_of};
 
+use questions::code_names::{
+    BOTH, BUY, BUY_ONLY, ENHANCED, LIMIT, NEITHER, OPENING, SELL, SELL_ONLY, SPECIAL,
+};
 use questions::{Codes, Reference, References};
 
 // The queues, as the queue code tells of them, with the current or last bid and ask that the rules look at then.
@@ -50,27 +53,21 @@ pub fn choose(codes: Codes, references: References) -> Option<Chosen>
         return None;
     }
     let queues = match codes.queue {
-        1 => Queues::Opening,
-        2 => Queues::Both(references.current_bid, references.current_ask),
-        3 => Queues::BuyOnly(references.current_bid),
-        4 => Queues::SellOnly(references.current_ask),
-        5 => Queues::Neither(references.last_bid, references.last_ask),
+        OPENING => Queues::Opening,
+        BOTH => Queues::Both(references.current_bid, references.current_ask),
+        BUY_ONLY => Queues::BuyOnly(references.current_bid),
+        SELL_ONLY => Queues::SellOnly(references.current_ask),
+        NEITHER => Queues::Neither(references.last_bid, references.last_ask),
         0 | 6..=255 => return None,
     };
-    let rule = match codes.side {
-        1 => match codes.order_type {
-            1 => Rule::BuyLimit,
-            2 => Rule::BuyEnhanced,
-            3 => Rule::BuySpecial,
-            0 | 4..=255 => return None,
-        },
-        2 => match codes.order_type {
-            1 => Rule::SellLimit,
-            2 => Rule::SellEnhanced,
-            3 => Rule::SellSpecial,
-            0 | 4..=255 => return None,
-        },
-        0 | 3..=255 => return None,
+    let rule = match (codes.side, codes.order_type) {
+        (BUY, LIMIT) => Rule::BuyLimit,
+        (BUY, ENHANCED) => Rule::BuyEnhanced,
+        (BUY, SPECIAL) => Rule::BuySpecial,
+        (SELL, LIMIT) => Rule::SellLimit,
+        (SELL, ENHANCED) => Rule::SellEnhanced,
+        (SELL, SPECIAL) => Rule::SellSpecial,
+        (0 | 3..=255, _) | (_, 0 | 4..=255) => return None,
     };
     Some(Chosen { rule, queues })
 }

@@ -13,7 +13,7 @@ fn digit(d: u64) -> u8
     b'0' + d as u8
 }
 
-// A text that is filled from its end: what is written stands from `start` on, and each method writes in front of it.
+// A text that is filled from its end: what is written stands from `start` on, and the next part goes in front of it.
 #[derive(Drop)]
 pub struct Filling<'a> {
     room: &'a mut [u8],

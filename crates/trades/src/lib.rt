@@ -1,7 +1,7 @@
 // Off-System trades: six numbers, and an answer as a question's.
 //
-// The call of this file uses the Phase 1 table and 5 percent. Functions of `readings` and `verdicts` that take terms hold for every
-// well-formed table and any percentage. Prices are whole mils.
+// The call of this file uses the Phase 1 table and 5 percent. Functions of `readings` and `verdicts` that are lent a table or terms hold
+// for every well-formed table and any percentage. Prices are whole mils.
 #![tactic(auto)]
 
 pub mod readings; // readings.rt: the reading of a trade's references: its range, or why it has none
@@ -28,6 +28,7 @@ pub struct TradeReferences {
 }
 
 // The answer to a trade. After the trade price, 0 means missing.
+#[tactic(auto, unfolding(crate::specs::Trades::trade_references_of))]
 pub fn judge_trade(
     price: u32,
     previous_close: u32,
@@ -38,12 +39,12 @@ pub fn judge_trade(
 ) -> Answer
     ensures { result ≡ trade_judged (ladder phase1) five_percent price (trade_references_of previous_close lowest_bid lowest_ask highest_bid highest_ask) }
 {
-    let references = readings::references_of(
-        previous_close,
-        lowest_bid,
-        lowest_ask,
-        highest_bid,
-        highest_ask,
-    );
+    let references = TradeReferences {
+        previous_close: Reference::from(previous_close),
+        lowest_bid: Reference::from(lowest_bid),
+        lowest_ask: Reference::from(lowest_ask),
+        highest_bid: Reference::from(highest_bid),
+        highest_ask: Reference::from(highest_ask),
+    };
     verdicts::judge(&usual(), price, references)
 }

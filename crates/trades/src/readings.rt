@@ -1,33 +1,13 @@
 // The reading of a trade's references: checks 3 and 4, then the range of the trade. It does not look at the trade price.
 ghost use Rattle.std.specs.Prelude.{◌≡◌};
 ghost use Rattle.ladder.specs.Layout.{prices_of};
-ghost use Rattle.trades.specs.Trades.{trade_references_of, any_trade_off, trade_disagrees, trade_lowest, trade_highest, trade_reading};
+ghost use Rattle.trades.specs.Trades.{any_trade_off, trade_disagrees, trade_lowest, trade_highest, trade_reading};
 
 use super::TradeReferences;
 use ladder::table::SpreadTable;
 use limits::terms::Terms;
 use questions::{Reference, checks};
 use ranges::{Range, Reading, Refusal, bounds};
-
-// The references of a trade from their numbers: 0 means missing.
-#[tactic(auto, unfolding(crate::specs::Trades::trade_references_of))]
-pub fn references_of(
-    previous_close: u32,
-    lowest_bid: u32,
-    lowest_ask: u32,
-    highest_bid: u32,
-    highest_ask: u32,
-) -> TradeReferences
-    ensures { result ≡ trade_references_of previous_close lowest_bid lowest_ask highest_bid highest_ask }
-{
-    TradeReferences {
-        previous_close: Reference::from(previous_close),
-        lowest_bid: Reference::from(lowest_bid),
-        lowest_ask: Reference::from(lowest_ask),
-        highest_bid: Reference::from(highest_bid),
-        highest_ask: Reference::from(highest_ask),
-    }
-}
 
 impl TradeReferences {
     // Whether any of the five is present, but no ladder price.

@@ -32,9 +32,9 @@ pub fn verdict_on(table: &SpreadTable, range: Range, price: u32) -> Verdict
 pub fn judge(terms: &Terms, price: u32, references: TradeReferences) -> Answer
     ensures { result ≡ trade_judged (prices_of terms.now.table) terms.now.percentage price references }
 {
-    let reading = readings::reading_of(terms, references);
-    let Ok(range) = reading else {
-        return answers::refused(reading.unwrap_err());
+    let range = match readings::reading_of(terms, references) {
+        Ok(range) => range,
+        Err(refusal) => return answers::refused(refusal),
     };
     let verdict = verdict_on(&terms.table, range, price);
     Answer {

@@ -60,16 +60,6 @@ tried_none scale y t h l e = (below_first scale y t h l).1 (go (ltb (position_or
     go true i n = absurd (none-some _ n)
     go false i n = omega (arith, ltb-false _ _ i, length-take-le h t l)
 
--- no more bands end below than there are
-pub no_more : (scale y : ℕ) (t : List Band) → bands_below scale y t ≤ length t
-unfolding bands_below
-no_more scale y [] = omega arith
-no_more scale y (b ∷ bs) = go (ltb (scale * b.top) y) (no_more scale y bs)
-  where
-    go : (v : Bool) → bands_below scale y bs ≤ length bs → cond v (suc (bands_below scale y bs)) 0 ≤ suc (length bs)
-    go true h = omega (arith, h)
-    go false h = omega arith
-
 -- ---- all bands counted
 
 counting : ℕ → ℕ → List Band → ℕ

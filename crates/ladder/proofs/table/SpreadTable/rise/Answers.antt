@@ -19,8 +19,8 @@ overflow_sub-band c =
     let l = c.loop-band in
     rw (rest_band t c.args.index l.band-index) (l.invariant.stands (omega (arith, rest_length t c.args.index))).high
 
-pub turn_in-turn-requires : goal.turn_in-turn-requires
-turn_in-turn-requires c =
+pub turn_in-requires : goal.turn_in-requires
+turn_in-requires c =
     let t = c.args.self.now.bands.now in
     (band_facts t c.args.self.now.is_well_formed (c.args.index + c.loop-band.band-index) (omega (arith, rest_length t c.args.index)) _
     (rest_band t c.args.index c.loop-band.band-index)).spreads

@@ -28,8 +28,8 @@ overflow_sub-at c =
     rw band.2
     (fall_stands t c.args.self.now.is_well_formed c.args.price c.args.n l.at l.left _ _ band.0 band.3 _ band.2 i.2).low
 
-pub turn_in-turn-requires : goal.turn_in-turn-requires
-turn_in-turn-requires c =
+pub turn_in-requires : goal.turn_in-requires
+turn_in-requires c =
     let t = c.args.self.now.bands.now in
     let i = c.loop-band.invariant in
     let band = last_band t _ _ _ i.0 i.1 c.in-Some.ensures.steps in
