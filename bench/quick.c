@@ -23,9 +23,12 @@ struct answer {
 
 /* ---- the ladder ----------------------------------------------------- */
 
+/* n spreads, not 0 of them. From between two ladder prices the first ends
+ * where it would from the one behind. */
 static inline uint32_t up(uint32_t price, uint32_t n)
 {
-    for (uint32_t k = band_of(price); k < BANDS; k++) {
+    uint32_t k = band_of(price);
+    for (price -= price % bands[k].spread; k < BANDS; k++) {
         uint32_t room = bands[k].top - price, spread = bands[k].spread;
         if (n * spread <= room)
             return price + n * spread;
@@ -37,7 +40,9 @@ static inline uint32_t up(uint32_t price, uint32_t n)
 
 static inline uint32_t down(uint32_t price, uint32_t n)
 {
-    for (uint32_t k = band_of(price) + 1; k-- > 0;) {
+    uint32_t k = band_of(price);
+    price += (bands[k].top - price) % bands[k].spread;
+    for (k++; k-- > 0;) {
         uint32_t room = price - bands[k].bottom, spread = bands[k].spread;
         if (n * spread <= room)
             return price - n * spread;
@@ -98,6 +103,11 @@ static inline bool off(uint32_t reference)
     return reference != 0 && !on_ladder(reference);
 }
 
+static inline bool outside(uint32_t reference)
+{
+    return reference != 0 && !within(reference);
+}
+
 static inline bool has_bid(const struct order *o)
 {
     return o->queue == BOTH || o->queue == BUY_ONLY;
@@ -114,8 +124,8 @@ static inline uint32_t refusal(const struct order *o)
     if (o->side - 1 > 1 || o->type - 1 > 2 || o->queue - 1 > 4 || o->zero != 0)
         return 2;
     if (off(o->bid) || off(o->ask) || off(o->last_bid) || off(o->last_ask)
-        || off(o->close) || off(o->day_low) || off(o->day_high)
-        || off(o->nominal))
+        || outside(o->close) || off(o->day_low) || off(o->day_high)
+        || outside(o->nominal))
         return 3;
     if ((o->bid != 0) != has_bid(o) || (o->ask != 0) != has_ask(o)
         || (o->queue == BOTH && o->bid >= o->ask)
@@ -190,10 +200,10 @@ static inline struct answer permitted(const struct order *o)
     return range;
 }
 
-/* Checks 6 to 10. Nine times a ladder price has 32 bits. */
+/* Checks 6 to 10. Nine times a price within the ends has 32 bits. */
 static inline uint32_t verdict(uint32_t price, struct answer range, uint32_t n)
 {
-    if (price < FIRST || price > LAST)
+    if (!within(price))
         return 6;
     if (!on_ladder(price))
         return 7;

@@ -10,8 +10,8 @@ enum { BEST_BID = 1, BEST_ASK, BUY_EMPTY, SELL_EMPTY, TRADE };
 
 struct quick_entered quick_open_day(uint32_t close)
 {
-    bool off = close != 0 && !on_ladder(close);
-    return (struct quick_entered){off ? 12 : 0, {.close = off ? 0 : close}};
+    bool out = close != 0 && !within(close);
+    return (struct quick_entered){out ? 12 : 0, {.close = out ? 0 : close}};
 }
 
 static inline uint32_t enter_bid(struct quick_day *day, uint32_t price)

@@ -55,11 +55,16 @@ static inline uint32_t band_of(uint32_t price)
     return k;
 }
 
+/* Within the ends of the ladder: 0 less 10 is large. */
+static inline bool within(uint32_t price)
+{
+    return price - FIRST <= LAST - FIRST;
+}
+
 /* Every bottom is a multiple of its band's spread. */
 static inline bool on_ladder(uint32_t price)
 {
-    return price >= FIRST && price <= LAST
-        && price % bands[band_of(price)].spread == 0;
+    return within(price) && price % bands[band_of(price)].spread == 0;
 }
 
 static inline void put(uint8_t *bytes, uint32_t number)

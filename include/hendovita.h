@@ -66,7 +66,9 @@ enum hendovita_number {
     HENDOVITA_UNKNOWN_CODE = 2, /* side, order type, queue code or byte 3 */
 
     /* the reference feed */
-    HENDOVITA_REFERENCE_OFF_LADDER = 3, /* present, and no ladder price */
+    HENDOVITA_REFERENCE_OFF_LADDER = 3, /* present, and no ladder price; of
+                                         * close and nominal: present, and
+                                         * under 0.010 or over 9,995.000 */
     HENDOVITA_REFERENCES_DISAGREE = 4, /* with the queue code, or each other */
 
     /* the client who enters the order */
@@ -80,7 +82,8 @@ enum hendovita_number {
 
     /* the reference feed, in a day book */
     HENDOVITA_UNKNOWN_EVENT = 11, /* or a price with an emptied queue */
-    HENDOVITA_OFF_LADDER = 12, /* a price of an event, or a previous close */
+    HENDOVITA_OFF_LADDER = 12, /* a price of an event that is no ladder price;
+                                * a close under 0.010 or over 9,995.000 */
     HENDOVITA_QUOTES_CROSS = 13 /* a bid not below the current ask, or an ask
                                  * not above the current bid */
 };
@@ -97,7 +100,8 @@ static inline const char *hendovita_text(uint32_t number)
     case HENDOVITA_UNKNOWN_CODE:
         return "side, order type or queue code unknown, or byte 3 not zero";
     case HENDOVITA_REFERENCE_OFF_LADDER:
-        return "a reference is present but no ladder price";
+        return "bid, ask or day price off the ladder, or close or nominal "
+               "outside its ends";
     case HENDOVITA_REFERENCES_DISAGREE:
         return "references disagree with the queue code or with each other";
     case HENDOVITA_NO_OPPOSITE_QUEUE:
@@ -115,7 +119,7 @@ static inline const char *hendovita_text(uint32_t number)
     case HENDOVITA_UNKNOWN_EVENT:
         return "event kind unknown, or a price with an emptied queue";
     case HENDOVITA_OFF_LADDER:
-        return "price of an event, or previous close, that is no ladder price";
+        return "price of an event off the ladder, or close outside its ends";
     case HENDOVITA_QUOTES_CROSS:
         return "bid not below current ask, or ask not above current bid";
     default:
@@ -265,7 +269,8 @@ struct hendovita_answer hendovita_judge_question(const uint8_t *question,
  * missing. The trade price need not be a ladder price, and the nine-fold rule
  * is for orders.
  *
- * 3 with 0 and 0: a reference is present but no ladder price.
+ * 3 with 0 and 0: a bid or an ask is present but no ladder price, or the
+ *   previous close is present but under 0.010 or over 9,995.000.
  * 4 with 0 and 0: of the lowest and highest bid one is missing, or the lowest
  *   is above the highest; or so of the asks.
  * 6, 8, 9 with the permitted range: the trade price is under 0.010 or over
@@ -321,8 +326,8 @@ struct hendovita_entered {
 /*
  * A fresh day with this previous close; 0 is none. All else is none.
  *
- * 0: taken. 12 (HENDOVITA_OFF_LADDER): the close is neither 0 nor a ladder
- * price, and the day has none.
+ * 0: taken. 12 (HENDOVITA_OFF_LADDER): the close is neither 0 nor a price from
+ * 0.010 to 9,995.000, and the day has none.
  */
 HENDOVITA_CHECK_RESULT
 struct hendovita_entered hendovita_open_day(uint32_t previous_close);
@@ -359,7 +364,7 @@ struct hendovita_entered hendovita_enter_event(struct hendovita_day day,
  * Whatever side, order type, price and nominal are given: a question from a
  * day that hendovita_open_day and then hendovita_enter_event have returned
  * never gets 4, and gets 3 only where the nominal given is neither 0 nor a
- * ladder price.
+ * price from 0.010 to 9,995.000.
  */
 HENDOVITA_CHECK_RESULT
 uint32_t hendovita_fill_question(struct hendovita_day day, uint8_t side,
@@ -381,8 +386,9 @@ struct hendovita_place {
 };
 
 /* The price n spreads up or down, any n, halting at the ends of the ladder;
- * with n = 0 the price itself. None from a price off the ladder, and only
- * then. */
+ * with n = 0 the price itself. From a price between two ladder prices the
+ * first spread goes to the nearest one that way, and is one of the n. None from
+ * a price under 0.010 or over 9,995.000, and only then. */
 HENDOVITA_CHECK_RESULT
 struct hendovita_price hendovita_up(uint32_t price, uint64_t n);
 HENDOVITA_CHECK_RESULT
@@ -397,17 +403,18 @@ struct hendovita_price hendovita_price_at(uint32_t place);
 HENDOVITA_CHECK_RESULT
 struct hendovita_place hendovita_place_of(uint32_t price);
 
-/* The limits of a reference: 5 percent or 24 spreads, whichever is further,
- * both halting at the ends of the ladder. The lower 5 percent limit is rounded
- * up to the ladder, the upper one down. None from a reference off the ladder,
- * and only then. */
+/* The limits of a reference, a ladder price or not: 5 percent of it or 24
+ * spreads, whichever is further, both halting at the ends of the ladder. The
+ * lower 5 percent limit is rounded up to the ladder, the upper one down. None
+ * from a reference under 0.010 or over 9,995.000, and only then. */
 HENDOVITA_CHECK_RESULT
 struct hendovita_price hendovita_lower_limit(uint32_t reference);
 HENDOVITA_CHECK_RESULT
 struct hendovita_price hendovita_upper_limit(uint32_t reference);
 
 /* The 5 percent limits by themselves, before 24 spreads are looked at, rounded
- * likewise. None from a reference off the ladder, and only then. */
+ * likewise. None from a reference under 0.010 or over 9,995.000, and only
+ * then. */
 HENDOVITA_CHECK_RESULT
 struct hendovita_price hendovita_five_percent_lower(uint32_t reference);
 HENDOVITA_CHECK_RESULT

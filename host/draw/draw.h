@@ -4,6 +4,8 @@
  * The draws are weighted so that every answer number comes up often, and so
  * that prices fall at band edges, at the ends of the ladder, at the ends of
  * the permitted and shown ranges and at the edges of the nine-fold rule.
+ * Previous closes and nominals fall on the ladder, between its prices, and
+ * past its ends.
  */
 #ifndef DRAW_H
 #define DRAW_H

@@ -6,14 +6,19 @@
 
 static uint32_t nominal(struct draw *draw, struct draw_span span)
 {
-    switch (draw_below(draw, 8)) {
+    switch (draw_below(draw, 16)) {
     case 0:
     case 1:
-        return 0;
     case 2:
+    case 3:
+        return 0;
+    case 4:
         return draw_shifted(draw, draw_price(draw));
+    case 5:
+        return draw_one_in(draw, 2) ? draw_past_end(draw)
+                                    : draw_odd_price(draw);
     default:
-        return draw_reference(draw, span);
+        return draw_loose_reference(draw, span);
     }
 }
 

@@ -10,8 +10,8 @@ struct side {
     uint32_t current, last, lowest, highest;
 };
 
-/* A price that cannot be a close or go with a bid, an ask or a trade; beside
- * a ladder price it may happen to be another. */
+/* A price that cannot go with a bid, an ask or a trade; beside a ladder price
+ * it may happen to be another. */
 static uint32_t bad_price(struct draw *draw, struct draw_span span)
 {
     uint32_t price = draw_reference(draw, span);
@@ -27,11 +27,6 @@ static uint32_t bad_price(struct draw *draw, struct draw_span span)
     }
 }
 
-static uint32_t end_of_ladder(struct draw *draw)
-{
-    return draw_one_in(draw, 2) ? PLAIN_FIRST : PLAIN_LAST;
-}
-
 uint32_t draw_close(struct draw *draw, struct draw_span span)
 {
     switch (draw_below(draw, 8)) {
@@ -39,11 +34,12 @@ uint32_t draw_close(struct draw *draw, struct draw_span span)
     case 1:
         return 0;
     case 2:
-        return bad_price(draw, span);
+        return draw_one_in(draw, 2) ? draw_past_end(draw)
+                                    : draw_odd_price(draw);
     case 3:
         return draw_price(draw);
     default:
-        return draw_reference(draw, span);
+        return draw_loose_reference(draw, span);
     }
 }
 
@@ -71,7 +67,7 @@ static uint32_t quote(struct draw *draw, struct draw_span span,
     case 5:
         return beside(draw, span, own.highest);
     case 6:
-        return draw_one_in(draw, 4) ? end_of_ladder(draw) : draw_price(draw);
+        return draw_one_in(draw, 4) ? draw_end(draw) : draw_price(draw);
     default:
         return draw_reference(draw, span);
     }
@@ -91,7 +87,7 @@ static uint32_t trade(struct draw *draw, struct draw_span span,
     case 3:
         return beside(draw, span, kept->day_high);
     case 4:
-        return draw_one_in(draw, 4) ? end_of_ladder(draw) : draw_price(draw);
+        return draw_one_in(draw, 4) ? draw_end(draw) : draw_price(draw);
     default:
         return draw_reference(draw, span);
     }

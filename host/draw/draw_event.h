@@ -11,7 +11,8 @@
 #include "draw_price.h"
 #include "plain.h"
 
-/* A previous close: none, a ladder price, or one that is turned away. */
+/* A previous close: none, a price on the ladder or between its prices, or one
+ * that is turned away. */
 uint32_t draw_close(struct draw *draw, struct draw_span span);
 
 /* The next event. Each kind is accepted often and turned away often, with

@@ -84,19 +84,40 @@ uint32_t draw_reference(struct draw *draw, struct draw_span span)
     return draw_between(draw, span.low, span.high);
 }
 
-/* The largest ladder price that is not above a price, or the first: halves the
- * part of the list that can hold it until one is left. */
+/* Any price from a ladder price to the next. */
+static uint32_t up_to_next(struct draw *draw, uint32_t price)
+{
+    return price + draw_below(draw, plain_up(price, 1) - price + 1);
+}
+
+uint32_t draw_loose_reference(struct draw *draw, struct draw_span span)
+{
+    uint32_t price = draw_reference(draw, span);
+    switch (draw_below(draw, 16)) {
+    case 0:
+        return draw_end(draw);
+    case 1:
+    case 2:
+        return price > PLAIN_FIRST ? price - 1 : price;
+    case 3:
+    case 4:
+        return price < PLAIN_LAST ? price + 1 : price;
+    case 5:
+    case 6:
+    case 7:
+    case 8:
+        return up_to_next(draw, price);
+    default:
+        return price;
+    }
+}
+
+/* The largest ladder price that is not above a price, or the first. */
 static uint32_t ladder_below(uint32_t price)
 {
-    uint32_t low = 0, high = plain_count() - 1;
-    while (low < high) {
-        uint32_t middle = (low + high + 1) / 2;
-        if (plain_price(middle) <= price)
-            low = middle;
-        else
-            high = middle - 1;
-    }
-    return plain_price(low);
+    if (price < PLAIN_FIRST)
+        return PLAIN_FIRST;
+    return price < PLAIN_LAST ? plain_down(price + 1, 1) : PLAIN_LAST;
 }
 
 uint32_t draw_beside(struct draw *draw, uint32_t price)
@@ -126,6 +147,16 @@ uint32_t draw_shifted(struct draw *draw, uint32_t price)
     default:
         return price;
     }
+}
+
+uint32_t draw_end(struct draw *draw)
+{
+    return draw_one_in(draw, 2) ? PLAIN_FIRST : PLAIN_LAST;
+}
+
+uint32_t draw_past_end(struct draw *draw)
+{
+    return draw_one_in(draw, 2) ? PLAIN_FIRST - 1 : PLAIN_LAST + 1;
 }
 
 uint32_t draw_odd_price(struct draw *draw)

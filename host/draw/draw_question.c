@@ -59,6 +59,11 @@ static uint32_t maybe(struct draw *draw, struct draw_span span)
     return draw_one_in(draw, 3) ? 0 : draw_reference(draw, span);
 }
 
+static uint32_t maybe_loose(struct draw *draw, struct draw_span span)
+{
+    return draw_one_in(draw, 3) ? 0 : draw_loose_reference(draw, span);
+}
+
 static void exchange(uint32_t *a, uint32_t *b)
 {
     uint32_t kept = *a;
@@ -97,18 +102,22 @@ static void set_references(struct draw *draw, struct form *form)
     bool opening = form->code[QUEUE] == OPENING;
     field[LAST_BID] = opening ? 0 : maybe(draw, span);
     field[LAST_ASK] = opening ? 0 : maybe(draw, span);
-    field[CLOSE] = maybe(draw, span);
+    field[CLOSE] = maybe_loose(draw, span);
     field[DAY_LOW] = maybe(draw, span);
     field[DAY_HIGH] = field[DAY_LOW] == 0 ? 0 : draw_reference(draw, span);
     if (field[DAY_LOW] > field[DAY_HIGH])
         exchange(&field[DAY_LOW], &field[DAY_HIGH]);
-    field[NOMINAL] = maybe(draw, span);
+    field[NOMINAL] = maybe_loose(draw, span);
 }
 
-/* A ladder price at or beside nine times a price or a ninth of it. */
+/* At or beside nine times a price or a ninth of it: a ladder price or, within
+ * the ends, to the mil. */
 static uint32_t nine_fold_away(struct draw *draw, uint32_t price)
 {
-    return draw_beside(draw, draw_one_in(draw, 2) ? 9 * price : price / 9);
+    uint32_t edge = draw_one_in(draw, 2) ? 9 * price : price / 9;
+    if (edge <= PLAIN_FIRST || edge >= PLAIN_LAST || draw_one_in(draw, 2))
+        return draw_beside(draw, edge);
+    return edge - 1 + draw_below(draw, 3);
 }
 
 uint32_t draw_far_nominal(struct draw *draw, const uint8_t question[40])
@@ -157,7 +166,8 @@ static void put_reference_fault(struct draw *draw, struct form *form)
 {
     uint32_t *field = form->field;
     uint32_t *any = &field[BID + draw_below(draw, FIELDS - BID)];
-    switch (draw_below(draw, 9)) {
+    uint32_t *loose = &field[draw_one_in(draw, 2) ? CLOSE : NOMINAL];
+    switch (draw_below(draw, 10)) {
     case 0:
         *any = draw_one_in(draw, 2) ? *any + 1 : *any - 1;
         break;
@@ -179,6 +189,9 @@ static void put_reference_fault(struct draw *draw, struct form *form)
         break;
     case 7:
         exchange(&field[DAY_LOW], &field[DAY_HIGH]);
+        break;
+    case 8:
+        *loose = draw_past_end(draw);
         break;
     default:
         put_any_references(draw, form);

@@ -23,7 +23,8 @@ static void set_pair(struct draw *draw, struct draw_span span,
 static void set_references(struct draw *draw, uint32_t fields[FIELDS])
 {
     struct draw_span span = draw_span(draw);
-    fields[CLOSE] = draw_one_in(draw, 3) ? 0 : draw_reference(draw, span);
+    fields[CLOSE] = draw_one_in(draw, 3) ? 0
+                                         : draw_loose_reference(draw, span);
     set_pair(draw, span, &fields[LOWEST_BID], &fields[HIGHEST_BID]);
     set_pair(draw, span, &fields[LOWEST_ASK], &fields[HIGHEST_ASK]);
 }
@@ -39,7 +40,7 @@ static void exchange(uint32_t *a, uint32_t *b)
 static void put_fault(struct draw *draw, uint32_t fields[FIELDS])
 {
     uint32_t *any = &fields[1 + draw_below(draw, FIELDS - 1)];
-    switch (draw_below(draw, 6)) {
+    switch (draw_below(draw, 7)) {
     case 0:
         *any = draw_one_in(draw, 2) ? *any + 1 : *any - 1;
         break;
@@ -53,6 +54,9 @@ static void put_fault(struct draw *draw, uint32_t fields[FIELDS])
         *any = draw_price(draw);
         break;
     case 4:
+        fields[CLOSE] = draw_past_end(draw);
+        break;
+    case 5:
         exchange(&fields[LOWEST_BID], &fields[HIGHEST_BID]);
         break;
     default:

@@ -2,8 +2,10 @@
  * The price checks by the plain count.
  *
  * All ladder prices stand in one list, in rising order. A spread is a move to
- * the next entry. A limit is found by trying every entry. Nothing else is
- * used: no place, step or limit is computed from the width of a band.
+ * the next entry; from a price between two entries it is a move to the one
+ * that lies that way. A limit is found by trying one entry after another: from
+ * the first, or for a reference between two entries from the limit of the lower
+ * one. No place, step or limit is computed from the width of a band.
  *
  * A day is the list of its accepted events. What it keeps is found by going
  * through that list, each time from its beginning.
@@ -43,15 +45,17 @@ const uint32_t *plain_list(void);
 /* The top price of a band, counted from 0. */
 uint32_t plain_band_top(uint32_t band);
 
-/* n single spreads, one after another, halting at the ends of the ladder. */
+/* n single spreads, one after another, halting at the ends of the ladder; with
+ * n = 0 the price itself. None from a price outside the ends. */
 uint32_t plain_up(uint32_t price, uint64_t n);
 uint32_t plain_down(uint32_t price, uint64_t n);
 
-/* The 5 percent limits of a reference, before 24 spreads are looked at. */
+/* The 5 percent limits of a reference, before 24 spreads are looked at. None
+ * of a reference outside the ends. */
 uint32_t plain_five_percent_lower(uint32_t reference);
 uint32_t plain_five_percent_upper(uint32_t reference);
 
-/* The two limits of a reference. */
+/* The two limits of a reference, or none likewise. */
 uint32_t plain_lower_limit(uint32_t reference);
 uint32_t plain_upper_limit(uint32_t reference);
 

@@ -73,10 +73,11 @@ struct plain_kept plain_kept(const struct plain_day *day)
     };
 }
 
-/* A close that is turned away leaves a day that has none. */
+/* A close may lie between ladder prices. One that is turned away leaves a day
+ * that has none. */
 uint32_t plain_open_day(struct plain_day *day, uint32_t previous_close)
 {
-    bool refused = plain_off_ladder(previous_close);
+    bool refused = plain_outside(previous_close);
     day->previous_close = refused ? 0 : previous_close;
     day->count = 0;
     return refused ? 12 : 0;

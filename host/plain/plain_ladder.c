@@ -1,6 +1,6 @@
 /*
  * The price ladder: the table of bands, the list of all ladder prices, and
- * single spreads up and down that list.
+ * single spreads up and down that list, from an entry or from between two.
  */
 #include <stdlib.h>
 
@@ -26,9 +26,10 @@ static const struct band bands[PLAIN_BANDS] = {
     {5000000, 9995000, 5000},
 };
 
-static uint32_t list[PLAIN_PRICES];        /* place to price */
+static uint32_t list[PLAIN_PRICES];             /* place to price */
 static uint32_t count;
-static int16_t places[PLAIN_LAST + 1];     /* price to place, -1 if none */
+static uint16_t at_or_above[PLAIN_LAST + 1];    /* price to the place of the
+                                                 * first entry not below it */
 
 /* A ladder price is 10, or a price in a band that exceeds the band's bottom
  * by a multiple of its spread. */
@@ -47,17 +48,17 @@ static void append(uint32_t price)
 {
     if (count == PLAIN_PRICES)
         abort();    /* the table is wrong: too many prices */
-    places[price] = (int16_t)count;
     list[count] = price;
     count++;
 }
 
-/* Goes through every price in mils and keeps the ladder prices. */
+/* Goes through every price in mils and keeps the ladder prices. All that are
+ * kept before a price is reached are below it. */
 void plain_begin_ladder(void)
 {
     count = 0;
     for (uint32_t price = 0; price <= PLAIN_LAST; price++) {
-        places[price] = -1;
+        at_or_above[price] = (uint16_t)count;
         if (is_ladder_price(price))
             append(price);
     }
@@ -77,7 +78,10 @@ uint32_t plain_price(uint32_t place)
 
 int32_t plain_place(uint32_t price)
 {
-    return price <= PLAIN_LAST ? places[price] : -1;
+    if (price > PLAIN_LAST)
+        return -1;
+    uint32_t place = at_or_above[price];
+    return list[place] == price ? (int32_t)place : -1;
 }
 
 const uint32_t *plain_list(void)
@@ -90,39 +94,59 @@ uint32_t plain_band_top(uint32_t band)
     return band < PLAIN_BANDS ? bands[band].top : 0;
 }
 
-/* One spread up is the next entry; the last price has none and stays. */
-static uint32_t one_up(uint32_t place)
+bool plain_within_ends(uint32_t price)
 {
-    return place + 1 < count ? place + 1 : place;
+    return PLAIN_FIRST <= price && price <= PLAIN_LAST;
 }
 
-/* One spread down is the entry before; the first price has none and stays. */
-static uint32_t one_down(uint32_t place)
+uint32_t plain_at_or_above(uint32_t price)
 {
-    return place > 0 ? place - 1 : place;
+    return at_or_above[price];
 }
 
-/* Takes n single spreads. Once one changes nothing, no further one would. */
-static uint32_t repeat(uint32_t (*one)(uint32_t), uint32_t price, uint64_t n)
+uint32_t plain_at_or_below(uint32_t price)
 {
-    if (plain_place(price) < 0)
-        return 0;
-    uint32_t place = (uint32_t)plain_place(price);
-    for (uint64_t taken = 0; taken < n; taken++) {
-        uint32_t next = one(place);
-        if (next == place)
-            break;
-        place = next;
-    }
-    return list[place];
+    uint32_t place = at_or_above[price];
+    return list[place] == price ? place : place - 1;
 }
 
+/* The place of the first entry above a price. The last price has none above
+ * it and stays. */
+static uint32_t place_above(uint32_t price)
+{
+    return price < PLAIN_LAST ? at_or_above[price + 1] : count - 1;
+}
+
+/* The place of the last entry below a price. The first price has none below it
+ * and stays. */
+static uint32_t place_below(uint32_t price)
+{
+    return price > PLAIN_FIRST ? at_or_above[price] - 1u : 0;
+}
+
+/* The first spread leads to an entry, whether from an entry or from between
+ * two; each other one leads to the next. Once one changes nothing, no further
+ * one would. */
 uint32_t plain_up(uint32_t price, uint64_t n)
 {
-    return repeat(one_up, price, n);
+    if (!plain_within_ends(price))
+        return 0;
+    if (n == 0)
+        return price;
+    uint32_t place = place_above(price);
+    for (uint64_t taken = 1; taken < n && place < count - 1; taken++)
+        place++;
+    return list[place];
 }
 
 uint32_t plain_down(uint32_t price, uint64_t n)
 {
-    return repeat(one_down, price, n);
+    if (!plain_within_ends(price))
+        return 0;
+    if (n == 0)
+        return price;
+    uint32_t place = place_below(price);
+    for (uint64_t taken = 1; taken < n && place > 0; taken++)
+        place--;
+    return list[place];
 }

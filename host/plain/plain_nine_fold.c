@@ -3,8 +3,8 @@
  */
 #include "plain_parts.h"
 
-/* By the place of N: the places of the first and of the last ladder price
- * that pass against N. */
+/* By the place of a ladder price N: the places of the first and of the last
+ * ladder price that pass against N. */
 static int32_t first_passing[PLAIN_PRICES];
 static int32_t last_passing[PLAIN_PRICES];
 
@@ -35,23 +35,25 @@ void plain_begin_nine_fold(void)
     }
 }
 
-/* The place of the first price to look at: none before it can be shown. */
+/* The place of the first price to look at. None before it can be shown: what
+ * is too low for the ladder price at or below N is too low for N. */
 static int32_t start_place(uint32_t lowest, uint32_t against)
 {
     int32_t place = plain_place(lowest);
     if (plain_missing(against))
         return place;
-    int32_t first = first_passing[plain_place(against)];
+    int32_t first = first_passing[plain_at_or_below(against)];
     return place > first ? place : first;
 }
 
-/* The place of the last price to look at: none after it can be shown. */
+/* The place of the last price to look at. None after it can be shown: what
+ * is too high for the ladder price at or above N is too high for N. */
 static int32_t end_place(uint32_t highest, uint32_t against)
 {
     int32_t place = plain_place(highest);
     if (plain_missing(against))
         return place;
-    int32_t last = last_passing[plain_place(against)];
+    int32_t last = last_passing[plain_at_or_above(against)];
     return place < last ? place : last;
 }
 

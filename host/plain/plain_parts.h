@@ -43,9 +43,17 @@ void plain_begin_ladder(void);
 void plain_begin_limits(void);
 void plain_begin_nine_fold(void);
 
+/* plain_ladder.c: is a price within the ends of the ladder, both included? If
+ * so, the place of the first entry that is not below it, and of the last that
+ * is not above it. */
+bool plain_within_ends(uint32_t price);
+uint32_t plain_at_or_above(uint32_t price);
+uint32_t plain_at_or_below(uint32_t price);
+
 /* plain_reference.c */
 bool plain_missing(uint32_t reference);
 bool plain_off_ladder(uint32_t reference);
+bool plain_outside(uint32_t reference);
 bool plain_bad_pair(uint32_t low, uint32_t high);
 uint32_t plain_least(uint32_t a, uint32_t b, uint32_t c);
 uint32_t plain_greatest(uint32_t a, uint32_t b, uint32_t c);

@@ -39,17 +39,18 @@ static bool unknown_code(const struct plain_order *order)
         || order->zero != 0;
 }
 
-/* Check 3. All eight references are looked at, used or not. */
-static bool reference_off_ladder(const struct plain_order *order)
+/* Check 3. All eight references are looked at, used or not. The previous close
+ * and the nominal may lie between ladder prices, the others may not. */
+static bool bad_reference(const struct plain_order *order)
 {
     return plain_off_ladder(order->bid)
         || plain_off_ladder(order->ask)
         || plain_off_ladder(order->last_bid)
         || plain_off_ladder(order->last_ask)
-        || plain_off_ladder(order->previous_close)
+        || plain_outside(order->previous_close)
         || plain_off_ladder(order->day_low)
         || plain_off_ladder(order->day_high)
-        || plain_off_ladder(order->nominal);
+        || plain_outside(order->nominal);
 }
 
 /* Check 4. */
@@ -72,7 +73,7 @@ static uint32_t refusal(const struct plain_order *order)
 {
     if (unknown_code(order))
         return 2;
-    if (reference_off_ladder(order))
+    if (bad_reference(order))
         return 3;
     if (references_disagree(order))
         return 4;
@@ -92,7 +93,7 @@ static uint32_t nine_fold_against(const struct plain_order *order)
 static uint32_t judge_price(uint32_t price, struct plain_range permitted,
                             uint32_t against)
 {
-    if (price < PLAIN_FIRST || price > PLAIN_LAST)
+    if (!plain_within_ends(price))
         return 6;
     if (plain_place(price) < 0)
         return 7;

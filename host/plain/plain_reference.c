@@ -14,6 +14,12 @@ bool plain_off_ladder(uint32_t reference)
     return !plain_missing(reference) && plain_place(reference) < 0;
 }
 
+/* Present, but under the first ladder price or over the last. */
+bool plain_outside(uint32_t reference)
+{
+    return !plain_missing(reference) && !plain_within_ends(reference);
+}
+
 /* One of the two without the other, or the low above the high. */
 bool plain_bad_pair(uint32_t low, uint32_t high)
 {

@@ -1,12 +1,12 @@
 /*
  * The judging of an off-System trade. The trade price need not be on the
- * ladder, and the nine-fold rule is not held against it.
+ * ladder, nor need the previous close, and there is no nine-fold rule.
  */
 #include "plain_parts.h"
 
 static uint32_t judge_price(uint32_t price, uint32_t lowest, uint32_t highest)
 {
-    if (price < PLAIN_FIRST || price > PLAIN_LAST)
+    if (!plain_within_ends(price))
         return 6;
     if (price < lowest)
         return 8;
@@ -19,7 +19,7 @@ struct plain_answer plain_trade(uint32_t price, uint32_t previous_close,
                                 uint32_t lowest_bid, uint32_t lowest_ask,
                                 uint32_t highest_bid, uint32_t highest_ask)
 {
-    if (plain_off_ladder(previous_close)
+    if (plain_outside(previous_close)
         || plain_off_ladder(lowest_bid) || plain_off_ladder(lowest_ask)
         || plain_off_ladder(highest_bid) || plain_off_ladder(highest_ask))
         return (struct plain_answer){3, 0, 0};

@@ -4,6 +4,7 @@
  */
 #include "draw_event.h"
 #include "report.h"
+#include "seen.h"
 #include "tests.h"
 
 enum { LISTS = 200000, MOST_EVENTS = 40, ANY_DAYS = 500000 };
@@ -25,16 +26,19 @@ static const char *const situations[SITUATIONS] = {
     "a trade before any quote",
 };
 
+enum close { NO_CLOSE, ON_LADDER, BETWEEN, TURNED_AWAY, CLOSES };
+
 /* How often each came up: the numbers by kind of event, with 0 for a kind that
- * is unknown; closes, where 0 and 1 are none and a price, 2 is turned away;
- * and the queue codes and answers of filled questions and of trades. */
+ * is unknown; the closes; and of filled questions and of trades the queue
+ * codes, the answers, and what there was of closes and nominals. */
 struct counts {
     uint32_t number[6][14];
-    uint32_t close[3];
+    uint32_t close[CLOSES];
     uint32_t situation[SITUATIONS];
     uint32_t queue[6];
     uint32_t answer[11];
     uint32_t trade[11];
+    struct seen asked, traded;
 };
 
 /* A day as the library has it, as a list, and what the list says. */
@@ -46,6 +50,15 @@ struct both {
 
 /* ---- events ----------------------------------------------------------- */
 
+static enum close kind_of_close(uint32_t close, uint32_t number)
+{
+    if (number != 0)
+        return TURNED_AWAY;
+    if (close == 0)
+        return NO_CLOSE;
+    return plain_place(close) < 0 ? BETWEEN : ON_LADDER;
+}
+
 static void open_both(struct both *both, uint32_t close, struct counts *counts)
 {
     struct plain_event none = {0, close};
@@ -54,7 +67,7 @@ static void open_both(struct both *both, uint32_t close, struct counts *counts)
     both->kept = plain_kept(&both->list);
     report_entered("fresh", none, found, number, &both->kept);
     both->day = found.day;
-    counts->close[number != 0 ? 2 : close != 0]++;
+    counts->close[kind_of_close(close, number)]++;
 }
 
 /* What a bid or an ask meets on its own side and on the other. */
@@ -136,10 +149,12 @@ static void enter_both(struct both *both, struct plain_event event,
 
 /* ---- questions and trades --------------------------------------------- */
 
-/* No day of accepted events gives 4, and 3 is the caller's nominal. */
+/* No day of accepted events gives 4, and 3 is the caller's nominal, which lies
+ * outside the ends of the ladder. */
 static void not_by_the_day(struct hendovita_answer found, uint32_t nominal)
 {
-    bool bad_nominal = nominal != 0 && plain_place(nominal) < 0;
+    bool bad_nominal =
+        nominal != 0 && (nominal < PLAIN_FIRST || nominal > PLAIN_LAST);
     if (found.number == 4 || (found.number == 3 && !bad_nominal))
         report_say("  a filled question with nominal %u gets %u", nominal,
                    found.number);
@@ -163,6 +178,7 @@ static void ask_both(struct draw *draw, struct draw_span span,
     not_by_the_day(answer, asked.nominal);
     counts->queue[due[2]]++;
     counts->answer[due_answer.number]++;
+    seen_question(&counts->asked, due, due_answer);
 }
 
 /* An off-System trade by what the day keeps: 3 and 4 cannot come. */
@@ -188,6 +204,7 @@ static void trade_both(struct draw *draw, struct draw_span span,
     if (found.number == 3 || found.number == 4)
         report_say("  a trade by a day's own prices gets %u", found.number);
     counts->trade[due.number]++;
+    seen_trade(&counts->traded, fields, due);
 }
 
 /* ---- drawn lists ------------------------------------------------------ */
@@ -221,7 +238,10 @@ static void all_often(const struct counts *counts)
 {
     static const uint32_t quotes[] = {0, 12, 13}, emptied[] = {0, 11};
     static const uint32_t trades[] = {0, 12}, unknown[] = {11};
-    static const uint32_t closes[] = {0, 1, 2}, queues[] = {1, 2, 3, 4, 5};
+    static const uint32_t closes[] = {
+        NO_CLOSE, ON_LADDER, BETWEEN, TURNED_AWAY,
+    };
+    static const uint32_t queues[] = {1, 2, 3, 4, 5};
     static const uint32_t answers[] = {0, 2, 3, 5, 6, 7, 8, 9, 10};
     static const uint32_t judged[] = {0, 6, 8, 9};
     often("an unknown event", counts->number[0], unknown, 1, 50000);
@@ -230,10 +250,15 @@ static void all_often(const struct counts *counts)
     often("an empty buy queue", counts->number[3], emptied, 2, 30000);
     often("an empty sell queue", counts->number[4], emptied, 2, 30000);
     often("a System trade", counts->number[5], trades, 2, 30000);
-    often("closes", counts->close, closes, 3, 10000);
+    often("closes", counts->close, closes, CLOSES, 10000);
     often("queue code", counts->queue, queues, 5, 20000);
     often("answer", counts->answer, answers, 9, 10000);
     often("a trade's answer", counts->trade, judged, 4, 5000);
+    seen_often(&counts->asked, SEEN_CLOSE, SEEN_BETWEEN, SEEN_AT_END, 5000);
+    seen_often(&counts->asked, SEEN_NOMINAL, SEEN_OUTSIDE_REFUSED,
+               SEEN_AT_END, 5000);
+    seen_often(&counts->traded, SEEN_TRADE_CLOSE, SEEN_BETWEEN, SEEN_AT_END,
+               5000);
     for (int i = 0; i < SITUATIONS; i++)
         if (counts->situation[i] < 10000)
             report_say("  only %u times %s", counts->situation[i],

@@ -17,7 +17,8 @@ static const struct {
     {2, HENDOVITA_UNKNOWN_CODE,
      "side, order type or queue code unknown, or byte 3 not zero"},
     {3, HENDOVITA_REFERENCE_OFF_LADDER,
-     "a reference is present but no ladder price"},
+     "bid, ask or day price off the ladder, or close or nominal "
+     "outside its ends"},
     {4, HENDOVITA_REFERENCES_DISAGREE,
      "references disagree with the queue code or with each other"},
     {5, HENDOVITA_NO_OPPOSITE_QUEUE,
@@ -31,7 +32,7 @@ static const struct {
     {11, HENDOVITA_UNKNOWN_EVENT,
      "event kind unknown, or a price with an emptied queue"},
     {12, HENDOVITA_OFF_LADDER,
-     "price of an event, or previous close, that is no ladder price"},
+     "price of an event off the ladder, or close outside its ends"},
     {13, HENDOVITA_QUOTES_CROSS,
      "bid not below current ask, or ask not above current bid"},
     {14, 14, "no answer number"},

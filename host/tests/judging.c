@@ -5,6 +5,7 @@
 
 #include "draw.h"
 #include "report.h"
+#include "seen.h"
 #include "tests.h"
 
 enum { BATCH = 1000, BATCHES = 2000, TRADES = 500000 };
@@ -61,8 +62,22 @@ static void often(const uint32_t counts[11], const uint32_t *numbers,
                        numbers[i]);
 }
 
+/* Of a reference that may lie between ladder prices, and of one that may not,
+ * the draw is to reach each kind often. */
+static void seen_loose(const struct seen *seen, uint32_t reference)
+{
+    seen_often(seen, reference, SEEN_OUTSIDE_REFUSED, SEEN_AT_END, 10000);
+}
+
+static void seen_strict(const struct seen *seen, uint32_t reference)
+{
+    seen_often(seen, reference, SEEN_BETWEEN_REFUSED, SEEN_OUTSIDE_REFUSED,
+               2000);
+}
+
 /* A batch as the library judges it, question by question. */
-static void same_batch(const uint8_t *questions, uint32_t counts[11])
+static void same_batch(const uint8_t *questions, uint32_t counts[11],
+                       struct seen *seen)
 {
     static uint8_t answers[BATCH * 12];
     struct hendovita_outcome outcome = hendovita_judge_batch(
@@ -73,6 +88,7 @@ static void same_batch(const uint8_t *questions, uint32_t counts[11])
         const uint8_t *question = questions + 40 * k;
         struct plain_answer due = plain_question(question);
         counts[due.number]++;
+        seen_question(seen, question, due);
         report_question("in a batch", question,
                         hendovita_get_answer(answers + 12 * k), due);
         report_question("alone", question,
@@ -85,15 +101,22 @@ static void test_drawn_questions(void)
     static const uint32_t numbers[] = {0, 2, 3, 4, 5, 6, 7, 8, 9, 10};
     static uint8_t questions[BATCH * 40];
     uint32_t counts[11] = {0};
+    struct seen seen = {0};
     struct draw draw;
     report_begin("2,000,000 drawn questions, in batches and alone");
     draw_begin(&draw, 1);
     for (uint32_t b = 0; b < BATCHES; b++) {
         for (uint32_t k = 0; k < BATCH; k++)
             draw_question(&draw, questions + 40 * k);
-        same_batch(questions, counts);
+        same_batch(questions, counts, &seen);
     }
     often(counts, numbers, sizeof numbers / sizeof *numbers, 50000);
+    seen_loose(&seen, SEEN_CLOSE);
+    seen_loose(&seen, SEEN_NOMINAL);
+    for (uint32_t i = SEEN_BID; i <= SEEN_LAST_ASK; i++)
+        seen_strict(&seen, i);
+    seen_strict(&seen, SEEN_DAY_LOW);
+    seen_strict(&seen, SEEN_DAY_HIGH);
 }
 
 static void test_other_lengths(void)
@@ -115,6 +138,7 @@ static void test_drawn_trades(void)
 {
     static const uint32_t numbers[] = {0, 3, 4, 6, 8, 9};
     uint32_t counts[11] = {0};
+    struct seen seen = {0};
     struct draw draw;
     report_begin("500,000 drawn trades");
     draw_begin(&draw, 2);
@@ -124,11 +148,15 @@ static void test_drawn_trades(void)
         struct plain_answer due =
             plain_trade(f[0], f[1], f[2], f[3], f[4], f[5]);
         counts[due.number]++;
+        seen_trade(&seen, f, due);
         report_trade(f,
                      hendovita_judge_trade(f[0], f[1], f[2], f[3], f[4], f[5]),
                      due);
     }
     often(counts, numbers, sizeof numbers / sizeof *numbers, 20000);
+    seen_loose(&seen, SEEN_TRADE_CLOSE);
+    for (uint32_t i = SEEN_LOWEST_BID; i <= SEEN_HIGHEST_ASK; i++)
+        seen_strict(&seen, i);
 }
 
 void test_judging(void)

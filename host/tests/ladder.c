@@ -1,5 +1,6 @@
 /*
- * Every ladder price: place, price, steps and limits, against the list.
+ * Every ladder price: its place, and steps from it and from between, against
+ * the list.
  */
 #include <inttypes.h>
 
@@ -57,57 +58,38 @@ static void same_steps(uint32_t price, uint64_t n)
               plain_down(price, n));
 }
 
+/* A price between a ladder price and the next, another from pair to pair; the
+ * ladder price itself where there is none. */
+static uint32_t price_after(uint32_t place)
+{
+    uint32_t price = plain_price(place);
+    uint32_t gap = plain_up(price, 1) - price;
+    return gap < 2 ? price : price + 1 + place % (gap - 1);
+}
+
 static void test_steps(void)
 {
     static const uint64_t large[] = {
         100, 1000, 11738, 11739, 11740, UINT32_MAX, UINT64_C(1) << 32,
         UINT64_C(1) << 63, UINT64_MAX,
     };
-    report_begin("every ladder price, 0 to 30 spreads up and down");
+    report_begin("every ladder price and one after it, 0 to 30 spreads");
     for (uint32_t place = 0; place < plain_count(); place++)
-        for (uint64_t n = 0; n <= 30; n++)
+        for (uint64_t n = 0; n <= 30; n++) {
             same_steps(plain_price(place), n);
+            same_steps(price_after(place), n);
+        }
 
-    report_begin("every ladder price, up to 2^64 - 1 spreads up and down");
+    report_begin("every ladder price and one after it, up to 2^64 - 1");
     for (uint32_t place = 0; place < plain_count(); place++)
-        for (uint32_t i = 0; i < sizeof large / sizeof *large; i++)
+        for (uint32_t i = 0; i < sizeof large / sizeof *large; i++) {
             same_steps(plain_price(place), large[i]);
-}
-
-static void same_limits(uint32_t price)
-{
-    same_price("5 percent below", price, hendovita_five_percent_lower(price),
-               plain_five_percent_lower(price));
-    same_price("5 percent above", price, hendovita_five_percent_upper(price),
-               plain_five_percent_upper(price));
-    same_price("lower limit", price, hendovita_lower_limit(price),
-               plain_lower_limit(price));
-    same_price("upper limit", price, hendovita_upper_limit(price),
-               plain_upper_limit(price));
-}
-
-static void test_limits(void)
-{
-    report_begin("the four limits of every ladder price");
-    for (uint32_t place = 0; place < plain_count(); place++)
-        same_limits(plain_price(place));
-
-    report_begin("no step and no limit from any price off the ladder");
-    for (uint32_t price = 0; price <= 10000000; price++) {
-        if (plain_place(price) >= 0)
-            continue;
-        same_steps(price, price % 3);
-        same_limits(price);
-    }
-    for (uint32_t price = UINT32_MAX; price > 10000000; price -= price / 999) {
-        same_steps(price, price % 3);
-        same_limits(price);
-    }
+            same_steps(price_after(place), large[i]);
+        }
 }
 
 void test_ladder(void)
 {
     test_places();
     test_steps();
-    test_limits();
 }

@@ -9,7 +9,10 @@ int main(void)
     plain_begin();
     test_interface();
     test_ladder();
+    test_prices();
     test_judging();
+    test_closes();
+    test_refusals();
     test_batches();
     test_memory();
     test_days();

@@ -5,8 +5,11 @@
 #define TESTS_H
 
 void test_interface(void); /* interface.c: the header's own functions */
-void test_ladder(void);    /* ladder.c: every price, place, step and limit */
+void test_ladder(void);    /* ladder.c: every place, steps by any number */
+void test_prices(void);    /* prices.c: every price, steps and limits */
 void test_judging(void);   /* judging.c: questions and trades */
+void test_closes(void);    /* closes.c: closes and nominals between prices */
+void test_refusals(void);  /* refusals.c: which references get 3 */
 void test_batches(void);   /* batches.c: lengths, buffers, every byte */
 void test_memory(void);    /* memory.c: guard pages, alignment, no bytes */
 void test_days(void);      /* days.c: a day after every event */

@@ -2,12 +2,11 @@
 -- Over any well-formed table and any percentage.
 use Rattle.std.specs.Prelude.{Option, Some, None, Ok, Err}
 use mathlib.Core.Path.{◌≡◌, refl, ap}
-use Prim.Native.Nat.{ℕ, zero, suc}
+use Prim.Native.Nat.{ℕ, zero, suc, ◌-◌}
 use mathlib.Core.Bool.{cond}
 use lib.Dec.{T}
 use Rattle.ladder.specs.Bands.{Table, well_formed}
 use Rattle.ladder.specs.Ladder.{Prices, ladder}
-use Rattle.ladder.specs.Places.{place_of}
 use Rattle.limits.specs.declared.Percentage.{Percentage}
 use Rattle.limits.specs.Limits.{lower_limit_found, upper_limit_found}
 use Rattle.questions.specs.declared.Reference.{Reference}
@@ -37,7 +36,7 @@ use Rattle.judging.specs.Numbers.{wrong_length, verdict_number}
 use Rattle.judging.specs.Answers.{none_shown, refused_answer, answer_with, answer_by, answer_decoded, judged}
 use Rattle.trades.specs.declared.TradeReferences.{TradeReferences}
 use Rattle.trades.specs.Trades.{any_trade_off, trade_disagrees, trade_reading, trade_by, trade_judged}
-use Rattle.claims.proofs.Limits.{up_from, down_from, low_by, high_by, up_by, down_by, low_by_lem, high_by_lem}
+use Rattle.claims.proofs.Limits.{up_after, down_after, low_by, high_by, up_by, down_by, low_by_lem, high_by_lem}
 
 -- ---- numbers worked out first
 
@@ -68,10 +67,10 @@ abbrev high_limit : Prices → Percentage → Reference → Reference
 high_limit l percent r = from_reference (high_by l percent) r
 
 abbrev spreads_above : Prices → Reference → Reference
-spreads_above l r = from_reference (λ (p : ℕ). up_from l enhanced_spreads (place_of p l)) r
+spreads_above l r = from_reference (up_after l (enhanced_spreads - 1)) r
 
 abbrev spreads_below : Prices → Reference → Reference
-spreads_below l r = from_reference (λ (p : ℕ). down_from l enhanced_spreads (place_of p l)) r
+spreads_below l r = from_reference (down_after l (enhanced_spreads - 1)) r
 
 -- the permitted lowest and highest
 unfoldable pub lowest_by : Prices → Percentage → Rule → Queues → References → ℕ
@@ -155,10 +154,10 @@ module _ (t : Table) (formed : T (well_formed t)) (percent : Percentage) where
   same_high = same_from _ _ (high_by_lem t formed percent)
 
   same_above : (r : Reference) → enhanced_above (ladder t) r ≡ spreads_above (ladder t) r
-  same_above = same_from _ _ (λ p. up_by t formed p enhanced_spreads)
+  same_above = same_from _ _ (λ p. up_by t formed p (enhanced_spreads - 1))
 
   same_below : (r : Reference) → enhanced_below (ladder t) r ≡ spreads_below (ladder t) r
-  same_below = same_from _ _ (λ p. down_by t formed p enhanced_spreads)
+  same_below = same_from _ _ (λ p. down_by t formed p (enhanced_spreads - 1))
 
   same_lowest : (rule : Rule) (q : Queues) (r : References) → lowest_of (ladder t) percent rule q r ≡ lowest_by (ladder t) percent rule q r
   unfolding lowest_of lowest_by

@@ -1,4 +1,4 @@
--- Claim: the worked lines, computed. Limits and Answers are for it alone. PlayedDay: the day, computed.
+-- Claim: the lines, computed. Limits and Answers are for it alone. PlayedDay: the day, computed.
 pub mod Claim
 mod Limits
 mod Answers

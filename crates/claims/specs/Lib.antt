@@ -1,4 +1,5 @@
--- The worked lines of document 01, as one claim, and a day played by hand, as another. The notation is explained in
+-- The worked lines of document 01, as one claim, those of document 02, b, as another, and a day played by hand. The notation is explained in
 -- crates/ladder/specs/Lib.antt.
 pub mod Worked
+pub mod OldCloses
 pub mod Played

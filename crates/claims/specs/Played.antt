@@ -1,5 +1,5 @@
 -- A day played by hand: what each event gets, what the day then keeps, and the question that is filled from it. Right or wrong by the
--- definitions that the calls for C equal. Prices are mils; 251 is the only one that is off the ladder, and 0.
+-- definitions that the calls for C equal. Prices are mils; of them 251 lies between two ladder prices, and 9 below them all.
 use Rattle.std.specs.Prelude.{◌≡◌, ℕ, Bool, true, false, ◌&&◌, List, [], ◌∷◌, eqb, get_or}
 use Rattle.questions.specs.Missing.{reference_of}
 use Rattle.questions.specs.Record.{bytes_of}
@@ -64,8 +64,9 @@ right_from n (keeps due code ∷ rest) =
 
 unfoldable pub steps : List Step
 steps =
-    -- a close off the ladder, and one on it
-    opens 251 12 ∷ keeps (0 ∷ 0 ∷ 0 ∷ 0 ∷ 0 ∷ 0 ∷ 0 ∷ 0 ∷ 0 ∷ 0 ∷ 0 ∷ []) 1 ∷
+    -- a close outside the ends, one between two ladder prices, and one on the ladder
+    opens 9 12 ∷ keeps (0 ∷ 0 ∷ 0 ∷ 0 ∷ 0 ∷ 0 ∷ 0 ∷ 0 ∷ 0 ∷ 0 ∷ 0 ∷ []) 1 ∷
+    opens 251 0 ∷ keeps (251 ∷ 0 ∷ 0 ∷ 0 ∷ 0 ∷ 0 ∷ 0 ∷ 0 ∷ 0 ∷ 0 ∷ 0 ∷ []) 1 ∷
     opens 30 0 ∷ keeps (30 ∷ 0 ∷ 0 ∷ 0 ∷ 0 ∷ 0 ∷ 0 ∷ 0 ∷ 0 ∷ 0 ∷ 0 ∷ []) 1 ∷
     -- a trade before any quote, and an empty queue emptied
     enters 5 25 0 ∷ enters 3 0 0 ∷ keeps (30 ∷ 0 ∷ 0 ∷ 0 ∷ 0 ∷ 0 ∷ 0 ∷ 0 ∷ 0 ∷ 25 ∷ 25 ∷ []) 1 ∷

@@ -2,6 +2,7 @@
 use Rattle.std.specs.Prelude.{◌≡◌, ℕ, zero, suc, ◌/◌, ◌%◌, Bool, true, false, ◌&&◌, List, [], ◌∷◌, ◌++◌, eqb, Option, Some, None}
 use Rattle.ladder.specs.Bands.{phase1}
 use Rattle.ladder.specs.Ladder.{Prices, ladder}
+use Rattle.ladder.specs.Spreads.{spreads_up, spreads_down}
 use Rattle.limits.specs.Limits.{five_percent, lower_limit_found, upper_limit_found}
 use Rattle.judging.specs.declared.Answer.{Answer}
 use Rattle.judging.specs.Answers.{judged}
@@ -52,9 +53,9 @@ sell_only = 4
 abbrev pub missing : ℕ
 missing = 0
 
--- "byte 3 is zero. Then nine 4-byte little-endian mils": in the paper's order, of which these lines name bid, ask and nominal
-abbrev pub question : ℕ → ℕ → ℕ → ℕ → ℕ → ℕ → ℕ → List ℕ
-question side type queue bid ask nominal price =
+-- "byte 3 is zero. Then nine 4-byte little-endian mils": in the paper's order, of which the lines name bid, ask, close and nominal
+abbrev pub question_after : ℕ → ℕ → ℕ → ℕ → ℕ → ℕ → ℕ → ℕ → List ℕ
+question_after close side type queue bid ask nominal price =
     side ∷ type ∷ queue ∷ 0 ∷
     mils (
     price ∷  -- order price
@@ -62,11 +63,14 @@ question side type queue bid ask nominal price =
     ask ∷  -- current ask
     missing ∷  -- last bid
     missing ∷  -- last ask
-    missing ∷  -- previous close
+    close ∷  -- previous close
     missing ∷  -- day low
     missing ∷  -- day high
     nominal ∷  -- nominal price
     [])
+
+abbrev pub question : ℕ → ℕ → ℕ → ℕ → ℕ → ℕ → ℕ → List ℕ
+question = question_after missing
 
 -- ---- a line
 
@@ -79,13 +83,16 @@ abbrev pub at : ℕ → ℕ → At
 at price number = record { price = price; number = number }
 
 -- an order, as a question at each order price, with the range that is shown and the prices tried; a question byte for byte, with its number
--- and the range that is shown; a lower limit; an upper limit; a trade, with its range and the prices tried
+-- and the range that is shown; a lower limit; an upper limit; a trade, with its range and the prices tried; and so many spreads up and down from
+-- a price
 pub data Line : Type 0 where
   order : (ℕ → List ℕ) → ℕ → ℕ → List At → Line
   bytes : List ℕ → ℕ → ℕ → ℕ → Line
   low : ℕ → ℕ → Line
   high : ℕ → ℕ → Line
   trade : TradeReferences → ℕ → ℕ → List At → Line
+  up : ℕ → ℕ → ℕ → Line
+  down : ℕ → ℕ → ℕ → Line
 
 -- an answer is these three numbers
 abbrev pub is : Answer → ℕ → ℕ → ℕ → Bool
@@ -106,6 +113,8 @@ right (bytes s number lowest highest) = is (judged prices five_percent s) number
 right (low r q) = finds (lower_limit_found prices five_percent r) q
 right (high r q) = finds (upper_limit_found prices five_percent r) q
 right (trade r lowest highest tried) = every (λ a. is (trade_judged prices five_percent a.price r) a.number lowest highest) tried
+right (up p n q) = finds (spreads_up prices p n) q
+right (down p n q) = finds (spreads_down prices p n) q
 
 -- ---- the lines
 

@@ -1,4 +1,5 @@
--- Every day that events lead to is in order: its prices are on the ladder, its pairs rise, and its bid is below its ask.
+-- Every day that events lead to is in order: its close is within the ends, its other prices are on the ladder, its pairs rise, and its bid is
+-- below its ask.
 use mathlib.Core.Path.{◌≡◌, refl, sym}
 use Prim.Native.Nat.{ℕ, min, max}
 use native.Mathlib.Omega.{arith}
@@ -13,7 +14,7 @@ use Rattle.ladder.specs.Ladder.{Prices}
 use Rattle.questions.specs.declared.Reference.{Reference}
 use Rattle.questions.specs.declared.Reference.TheVariants.{Missing, Price}
 use Rattle.questions.specs.Missing.{least, greatest}
-use Rattle.questions.specs.Checks.{is_off, bad_pair}
+use Rattle.questions.specs.Checks.{is_off, lies_outside, bad_pair}
 use Rattle.daybook.specs.declared.Quotes.{Quotes}
 use Rattle.daybook.specs.declared.Traded.{Traded}
 use Rattle.daybook.specs.declared.Day.{Day}
@@ -123,7 +124,7 @@ event_in_order l d e s n = by_kind e.kind bid ask buy sell trade none
         let both = passed_both (holds p l) (meet (Price p) d.asks.current || false) (rw k at n) in
         rw k
         (record {
-          close_on = s.close_on;
+          close_within = s.close_within;
           bids = quoted_in_order l p both.0 d.bids s.bids;
           asks = s.asks;
           apart = (or_parts (meet (Price p) d.asks.current) false both.1).0;
@@ -135,7 +136,7 @@ event_in_order l d e s n = by_kind e.kind bid ask buy sell trade none
         let both = passed_both (holds p l) (meet d.bids.current (Price p)) (rw k at n) in
         rw k
         (record {
-          close_on = s.close_on;
+          close_within = s.close_within;
           bids = s.bids;
           asks = quoted_in_order l p both.0 d.asks s.asks;
           apart = both.1;
@@ -145,13 +146,13 @@ event_in_order l d e s n = by_kind e.kind bid ask buy sell trade none
     buy : e.kind ≡ 3 → DayInOrder l (day_after e d)
     buy k =
         rw k
-        (record { close_on = s.close_on; bids = emptied_in_order l d.bids s.bids; asks = s.asks; apart = refl; traded = s.traded })
+        (record { close_within = s.close_within; bids = emptied_in_order l d.bids s.bids; asks = s.asks; apart = refl; traded = s.traded })
 
     sell : e.kind ≡ 4 → DayInOrder l (day_after e d)
     sell k =
         rw k
         (record {
-          close_on = s.close_on;
+          close_within = s.close_within;
           bids = s.bids;
           asks = emptied_in_order l d.asks s.asks;
           apart = meet_none d.bids.current;
@@ -163,7 +164,7 @@ event_in_order l d e s n = by_kind e.kind bid ask buy sell trade none
         let both = passed_both (holds p l) false (rw k at n) in
         rw k
         (record {
-          close_on = s.close_on;
+          close_within = s.close_within;
           bids = s.bids;
           asks = s.asks;
           apart = s.apart;
@@ -180,14 +181,14 @@ fresh_in_order : (l : Prices) (close : Reference) → DayInOrder l (opened l clo
 unfolding opened current_of last_of lowest_of highest_of
 fresh_in_order l close =
     record {
-      close_on = taken (is_off l close) refl;
+      close_within = taken (lies_outside l close) refl;
       bids = nothing;
       asks = nothing;
       apart = refl;
       traded = record { low_on = refl; high_on = refl; pair = refl };
     }
   where
-    taken : (off : Bool) → is_off l close ≡ off → is_off l (cond off Missing close) ≡ false
+    taken : (out : Bool) → lies_outside l close ≡ out → lies_outside l (cond out Missing close) ≡ false
     taken true e = refl
     taken false e = e
 

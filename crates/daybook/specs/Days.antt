@@ -4,7 +4,7 @@ use Rattle.ladder.specs.Ladder.{Prices}
 use Rattle.questions.specs.declared.Reference.{Reference}
 use Rattle.questions.specs.declared.Reference.TheVariants.{Missing, Price}
 use Rattle.questions.specs.Missing.{least, greatest}
-use Rattle.questions.specs.Checks.{is_off}
+use Rattle.questions.specs.Checks.{lies_outside}
 use Rattle.daybook.specs.declared.Quotes.{Quotes}
 use Rattle.daybook.specs.declared.Traded.{Traded}
 use Rattle.daybook.specs.declared.Day.{Day}
@@ -37,12 +37,12 @@ abbrev pub fresh_day : Reference → Day
 fresh_day close = day_of close []
 
 -- "A fresh day is given the previous close, or none; a refused close gives a day with none"; "12 .. a close other than 0 (none) for a
--- fresh day, off the ladder"
+-- fresh day", which from document 02, b, on is one outside "the ladder's ends"
 abbrev pub taken_close : Prices → Reference → Reference
-taken_close l close = cond (is_off l close) Missing close
+taken_close l close = cond (lies_outside l close) Missing close
 
 unfoldable pub opened : Prices → Reference → Entered
-opened l close = record { number = cond (is_off l close) off_ladder_number 0; day = fresh_day (taken_close l close) }
+opened l close = record { number = cond (lies_outside l close) off_ladder_number 0; day = fresh_day (taken_close l close) }
 
 -- the quotes of a queue after an event gives its best price, and after one says that it is empty
 abbrev pub quoted : ℕ → Quotes → Quotes

@@ -6,7 +6,7 @@ use Rattle.ladder.specs.Ladder.{Prices}
 use Rattle.questions.specs.declared.Reference.{Reference}
 use Rattle.questions.specs.declared.Reference.TheVariants.{Missing, Price}
 use Rattle.questions.specs.Missing.{present}
-use Rattle.questions.specs.Checks.{is_off, bad_pair}
+use Rattle.questions.specs.Checks.{is_off, lies_outside, bad_pair}
 use Rattle.daybook.specs.declared.Quotes.{Quotes}
 use Rattle.daybook.specs.declared.Traded.{Traded}
 use Rattle.daybook.specs.declared.Day.{Day}
@@ -51,9 +51,9 @@ EmptyingAQueue = (l : Prices) (d : Day) (queue : Queue) → Empties l d queue
 
 -- "A fresh day is given the previous close, or none; a refused close gives a day with none."
 pub record Opens (l : Prices) (close : Reference) : Type 0 where
-  pub number : (opened l close).number ≡ cond (is_off l close) 12 0
-  pub taken : is_off l close ≡ false → (opened l close).day ≡ day_of close []
-  pub refused : is_off l close ≡ true → (opened l close).day ≡ day_of Missing []
+  pub number : (opened l close).number ≡ cond (lies_outside l close) 12 0
+  pub taken : lies_outside l close ≡ false → (opened l close).day ≡ day_of close []
+  pub refused : lies_outside l close ≡ true → (opened l close).day ≡ day_of Missing []
 
 abbrev pub OpeningADay : Type 0
 OpeningADay = (l : Prices) (close : Reference) → Opens l close
@@ -75,9 +75,9 @@ pub record TradedInOrder (l : Prices) (t : Traded) : Type 0 where
   pub high_on : is_off l t.high ≡ false
   pub pair : bad_pair t.low t.high ≡ false
 
--- and of the day: where there are both, the current bid is below the current ask
+-- and of the day: the close is missing or within the ends; where there are both, the current bid is below the current ask
 pub record DayInOrder (l : Prices) (d : Day) : Type 0 where
-  pub close_on : is_off l d.previous_close ≡ false
+  pub close_within : lies_outside l d.previous_close ≡ false
   pub bids : QuotesInOrder l d.bids
   pub asks : QuotesInOrder l d.asks
   pub apart : meet d.bids.current d.asks.current ≡ false

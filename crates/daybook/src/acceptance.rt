@@ -1,19 +1,19 @@
-// The tests that turn an event away.
+// The tests that turn a close or an event away.
 ghost use Rattle.std.specs.Prelude.{◌≡◌};
 ghost use Rattle.ladder.specs.Bands.{phase1};
 ghost use Rattle.ladder.specs.Ladder.{ladder};
 ghost use Rattle.facts.specs.Lists.{holds};
-ghost use Rattle.questions.specs.Checks.{is_off};
+ghost use Rattle.questions.specs.Checks.{lies_outside};
 ghost use Rattle.daybook.specs.Accepted.{meet};
 
 use ladder::table::phase_1;
 use questions::Reference;
 
-// Whether a reference is present, but no ladder price.
-pub(crate) fn is_off(reference: Reference) -> bool
-    ensures { result ≡ is_off (ladder phase1) reference }
+// Whether a reference is present, but outside the ladder's ends.
+pub(crate) fn lies_outside(reference: Reference) -> bool
+    ensures { result ≡ lies_outside (ladder phase1) reference }
 {
-    reference.is_off(&phase_1())
+    reference.lies_outside(&phase_1())
 }
 
 // Whether a price is on the ladder.

@@ -4,7 +4,7 @@
 // crate `dayquestion` fills a question from it, `daynumbers` has it as plain numbers. Prices are whole mils; the ladder is that of Phase 1.
 #![tactic(auto)]
 
-mod acceptance; // acceptance.rt: the tests that turn an event away
+mod acceptance; // acceptance.rt: the tests that turn a close or an event away
 mod keeping; // keeping.rt: what an event makes of the prices that are kept
 
 ghost use Rattle.std.specs.Prelude.{◌≡◌};
@@ -55,7 +55,7 @@ enum Told {
     Accepted = 0,
     // An unknown kind, or a price with an emptied queue.
     UnknownEvent = 11,
-    // A price off the ladder, or such a close.
+    // A price off the ladder, or a close outside its ends.
     OffLadder = 12,
     // A bid not below the current ask, or an ask not above the current bid.
     QuotesCross = 13,
@@ -72,12 +72,12 @@ impl Day {
         }
     }
 
-    // A fresh day. A previous close that is no ladder price gets 12, and the day then has none.
+    // A fresh day. A previous close outside the ladder's ends gets 12, and the day then has none.
     #[tactic(auto, unfolding(crate::specs::Days::opened))]
     pub fn fresh(previous_close: Reference) -> Entered
         ensures { result ≡ opened (ladder phase1) previous_close }
     {
-        if acceptance::is_off(previous_close) {
+        if acceptance::lies_outside(previous_close) {
             let day = keeping::fresh_day(Reference::Missing);
             return day.told(Told::OffLadder);
         }

@@ -1,4 +1,4 @@
--- A day as plain numbers: nothing is lost, since no ladder price is 0; and an off-System trade that is given these numbers.
+-- A day as plain numbers: nothing is lost, since no price within the ends is 0; and an off-System trade that is given these numbers.
 use mathlib.Core.Path.{◌≡◌, refl}
 use Prim.Native.Nat.{ℕ, zero, suc}
 use native.Mathlib.Omega.{arith}
@@ -10,14 +10,12 @@ use Rattle.ladder.specs.Bands.{Table, well_formed}
 use Rattle.ladder.specs.Ladder.{Prices, ladder}
 use Rattle.ladder.proofs.Laws.{ladder_laws}
 use Rattle.limits.specs.declared.Percentage.{Percentage}
-use Rattle.limits.specs.Limits.{five_percent}
 use Rattle.questions.specs.declared.Reference.{Reference}
 use Rattle.questions.specs.declared.Reference.TheVariants.{Missing, Price}
 use Rattle.questions.specs.Missing.{reference_of, number_of}
-use Rattle.questions.specs.Checks.{is_off}
+use Rattle.questions.specs.Checks.{is_off, lies_outside}
+use Rattle.questions.proofs.Laws.{question_laws}
 use Rattle.ranges.specs.declared.Range.{Range}
-use Rattle.ranges.specs.Laws.{On}
-use Rattle.ranges.proofs.Laws.{range_laws}
 use Rattle.judging.specs.declared.Verdict.TheVariants.{Accepted, OutsideLadder, BelowLowest, AboveHighest}
 use Rattle.judging.specs.Verdicts.{outside, below_lowest, above_highest}
 use Rattle.judging.specs.Numbers.{verdict_number}
@@ -43,19 +41,19 @@ unfolding day_from numbers_of_day
 same_back n = simp number_back
 
 module _ (t : Table) (wf : T (well_formed t)) where
-  -- a price of the ladder is not 0, so that its number stands for it
+  -- a price within the ends is not 0, so that its number stands for it
+  close_back : (r : Reference) → lies_outside (ladder t) r ≡ false → reference_of (number_of r) ≡ r
+  close_back Missing w = refl
+  close_back (Price p) w = let positive = ladder_laws.never_zero t wf p w in rw (ne_eqb p 0 (λ z. omega arith))
+
   price_back : (r : Reference) → is_off (ladder t) r ≡ false → reference_of (number_of r) ≡ r
-  unfolding On
-  price_back Missing e = refl
-  price_back (Price p) e =
-      let positive = ladder_laws.never_zero t wf p ((range_laws.references_stay_on t wf five_percent).passed (Price p) e) in
-      rw (ne_eqb p 0 (λ z. omega arith))
+  price_back r on = close_back r (question_laws.none_outside t wf r on)
 
   day_back : (d : Day) → DayInOrder (ladder t) d → day_from (numbers_of_day d) ≡ d
   unfolding day_from numbers_of_day
   day_back d s =
       rw (
-        price_back d.previous_close s.close_on,
+        close_back d.previous_close s.close_within,
         price_back d.bids.current s.bids.current_on,
         price_back d.bids.last s.bids.last_on,
         price_back d.bids.lowest s.bids.lowest_on,
@@ -103,12 +101,12 @@ unfolding numbers_of_day trade_references_of any_trade_off trade_reading trade_j
 trade_on_lem t wf percent d price s refused =
     not_refused_lem (ladder t) (trade_range (ladder t) percent r) price
     (rw (
-      price_back t wf d.previous_close s.close_on,
+      close_back t wf d.previous_close s.close_within,
       price_back t wf d.bids.lowest s.bids.lowest_on,
       price_back t wf d.bids.highest s.bids.highest_on,
       price_back t wf d.asks.lowest s.asks.lowest_on,
       price_back t wf d.asks.highest s.asks.highest_on,
-      s.close_on,
+      s.close_within,
       s.bids.lowest_on,
       s.bids.highest_on,
       s.asks.lowest_on,

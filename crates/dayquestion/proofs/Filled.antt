@@ -14,13 +14,12 @@ use Rattle.ladder.specs.Ladder.{Prices, ladder}
 use Rattle.ladder.specs.Places.{last_price}
 use Rattle.ladder.proofs.Laws.{ladder_laws}
 use Rattle.limits.specs.declared.Percentage.{Percentage}
-use Rattle.limits.specs.Limits.{five_percent}
 use Rattle.questions.specs.declared.Reference.{Reference}
 use Rattle.questions.specs.declared.Reference.TheVariants.{Missing, Price}
 use Rattle.questions.specs.declared.References.{References}
 use Rattle.questions.specs.declared.Codes.{Codes}
 use Rattle.questions.specs.Missing.{reference_of, present}
-use Rattle.questions.specs.Checks.{is_off, any_off, bad_pair}
+use Rattle.questions.specs.Checks.{is_off, lies_outside, any_off, bad_pair}
 use Rattle.questions.specs.Record.{bytes_of}
 use Rattle.questions.specs.Laws.{is_writable, Fits}
 use Rattle.questions.proofs.Laws.{question_laws}
@@ -29,8 +28,6 @@ use Rattle.rules.specs.declared.Queues.{Queues}
 use Rattle.rules.specs.Rules.{known_side, known_type, known_queue, unknown_code, rule_of, queues_of, chosen}
 use Rattle.rules.specs.Checks.{disagree, unopposed}
 use Rattle.ranges.specs.declared.Range.{Range}
-use Rattle.ranges.specs.Laws.{On}
-use Rattle.ranges.proofs.Laws.{range_laws}
 use Rattle.ranges.specs.declared.Refusal.TheVariants.{UnknownCode}
 use Rattle.ranges.specs.Permitted.{range_of}
 use Rattle.ranges.specs.Readings.{in_order, reading_by, reading_on, reading_of}
@@ -49,14 +46,15 @@ use Rattle.dayquestion.specs.Laws.{OrderFits, CallersFault}
 -- ---- its bytes hold it
 
 module _ (t : Table) (wf : T (well_formed t)) where
-  writable : last_price (ladder t) < number_bound → (r : Reference) → is_off (ladder t) r ≡ false → T (is_writable r)
-  unfolding On
-  writable small Missing e = tt
-  writable small (Price p) e =
-      let on = (range_laws.references_stay_on t wf five_percent).passed (Price p) e in
-      let positive = ladder_laws.never_zero t wf p on in
-      let last = (ladder_laws.ends_are_the_tables t wf).none_above p on in
+  within_writable : last_price (ladder t) < number_bound → (r : Reference) → lies_outside (ladder t) r ≡ false → T (is_writable r)
+  within_writable small Missing w = tt
+  within_writable small (Price p) w =
+      let positive = ladder_laws.never_zero t wf p w in
+      let last = ((ladder_laws.ends_are_the_tables t wf).within p w).1 in
       and_both (ltb 0 p) (ltb p number_bound) (true_of _ (lt-ltb 0 p positive)) (true_of _ (lt-ltb p number_bound (omega arith)))
+
+  writable : last_price (ladder t) < number_bound → (r : Reference) → is_off (ladder t) r ≡ false → T (is_writable r)
+  writable small r on = within_writable small r (question_laws.none_outside t wf r on)
 
 given_writable : (n : ℕ) → n < number_bound → T (is_writable (reference_of n))
 given_writable zero small = tt
@@ -184,7 +182,7 @@ module _ (t : Table) (wf : T (well_formed t)) (small : last_price (ladder t) < n
         current_ask = writable t wf small d.asks.current s.asks.current_on;
         last_bid = writable t wf small d.bids.last s.bids.last_on;
         last_ask = writable t wf small d.asks.last s.asks.last_on;
-        previous_close = writable t wf small d.previous_close s.close_on;
+        previous_close = within_writable t wf small d.previous_close s.close_within;
         day_low = writable t wf small d.traded.low s.traded.low_on;
         day_high = writable t wf small d.traded.high s.traded.high_on;
         nominal = given_writable o.nominal fits.nominal;
@@ -200,7 +198,7 @@ module _ (t : Table) (wf : T (well_formed t)) (small : last_price (ladder t) < n
       one_of_two (known_side o.side) (known_type o.order_type)
       (rw (code_known d) at e)
 
-  nominal_given : any_off (ladder t) (references_from d o.nominal) ≡ true → is_off (ladder t) (reference_of o.nominal) ≡ true
+  nominal_given : any_off (ladder t) (references_from d o.nominal) ≡ true → lies_outside (ladder t) (reference_of o.nominal) ≡ true
   unfolding any_off
   nominal_given e =
       rw (
@@ -208,9 +206,9 @@ module _ (t : Table) (wf : T (well_formed t)) (small : last_price (ladder t) < n
         s.asks.current_on,
         s.bids.last_on,
         s.asks.last_on,
-        s.close_on,
         s.traded.low_on,
         s.traded.high_on,
+        s.close_within,
       ) at e
 
   pub only_the_caller : (percent : Percentage) → CallersFault t o (judged (ladder t) percent (bytes_of (question_from d o)))

@@ -9,7 +9,7 @@ use Rattle.limits.specs.declared.Percentage.{Percentage}
 use Rattle.questions.specs.declared.Reference.{Reference}
 use Rattle.questions.specs.declared.Question.{Question}
 use Rattle.questions.specs.Missing.{reference_of, present}
-use Rattle.questions.specs.Checks.{is_off}
+use Rattle.questions.specs.Checks.{lies_outside}
 use Rattle.questions.specs.Record.{bytes_of}
 use Rattle.rules.specs.Rules.{known_side, known_type}
 use Rattle.judging.specs.declared.Answer.{Answer}
@@ -68,7 +68,7 @@ pub record OrderFits (o : Order) : Type 0 where
 pub record CallersFault (t : Table) (o : Order) (a : Answer) : Type 0 where
   pub never_1 : a.number ≡ 1 → ⊥
   pub codes_given : a.number ≡ 2 → (known_side o.side && known_type o.order_type) ≡ false
-  pub nominal_given : a.number ≡ 3 → is_off (ladder t) (reference_of o.nominal) ≡ true
+  pub nominal_given : a.number ≡ 3 → lies_outside (ladder t) (reference_of o.nominal) ≡ true
   pub never_4 : a.number ≡ 4 → ⊥
 
 -- Whatever the caller gives, over the bytes of the question, with every table whose prices have 4 bytes.

@@ -4,7 +4,7 @@ use Rattle.interface.specs.declared.PriceFound.{PriceFound}
 use Rattle.interface.specs.declared.PlaceFound.{PlaceFound}
 
 -- "a place above 11,739 or a price off the ladder is told apart from every proper answer. So is a step or a limit asked from a price
--- off the ladder."
+-- off the ladder": from document 02, b, on, from a price outside its ends.
 unfoldable pub price_found : Option ℕ → PriceFound
 price_found (Some p) = record { found = 1; price = p }
 price_found None = record { found = 0; price = 0 }

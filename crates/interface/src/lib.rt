@@ -72,7 +72,7 @@ pub extern "C" fn hendovita_judge_trade(
     )
 }
 
-// The price n spreads up; none from a price off the ladder.
+// The price n spreads up; none from a price outside the ladder's ends.
 #[unsafe(no_mangle)]
 pub extern "C" fn hendovita_up(price: u32, n: u64) -> PriceFound
     ensures { result ≡ price_found (spreads_up (ladder phase1) price n) }
@@ -80,7 +80,7 @@ pub extern "C" fn hendovita_up(price: u32, n: u64) -> PriceFound
     PriceFound::from(ladder::up(price, n))
 }
 
-// The price n spreads down; none from a price off the ladder.
+// The price n spreads down; none from a price outside the ladder's ends.
 #[unsafe(no_mangle)]
 pub extern "C" fn hendovita_down(price: u32, n: u64) -> PriceFound
     ensures { result ≡ price_found (spreads_down (ladder phase1) price n) }
@@ -104,7 +104,7 @@ pub extern "C" fn hendovita_place_of(price: u32) -> PlaceFound
     PlaceFound::from(ladder::place_of(price))
 }
 
-// The lower limit of a reference; none off the ladder.
+// The lower limit of a reference; none outside the ladder's ends.
 #[unsafe(no_mangle)]
 pub extern "C" fn hendovita_lower_limit(reference: u32) -> PriceFound
     ensures { result ≡ price_found (lower_limit_found (ladder phase1) five_percent reference) }
@@ -112,7 +112,7 @@ pub extern "C" fn hendovita_lower_limit(reference: u32) -> PriceFound
     PriceFound::from(limits::lower_limit(reference))
 }
 
-// The upper limit of a reference; none off the ladder.
+// The upper limit of a reference; none outside the ladder's ends.
 #[unsafe(no_mangle)]
 pub extern "C" fn hendovita_upper_limit(reference: u32) -> PriceFound
     ensures { result ≡ price_found (upper_limit_found (ladder phase1) five_percent reference) }
@@ -120,7 +120,7 @@ pub extern "C" fn hendovita_upper_limit(reference: u32) -> PriceFound
     PriceFound::from(limits::upper_limit(reference))
 }
 
-// The lower 5 percent limit of a reference, before spreads are looked at; none off the ladder.
+// The lower 5 percent limit of a reference, before spreads are looked at; none outside the ladder's ends.
 #[unsafe(no_mangle)]
 pub extern "C" fn hendovita_five_percent_lower(reference: u32) -> PriceFound
     ensures { result ≡ price_found (percent_lower_found (ladder phase1) five_percent reference) }
@@ -128,7 +128,7 @@ pub extern "C" fn hendovita_five_percent_lower(reference: u32) -> PriceFound
     PriceFound::from(limits::five_percent_lower(reference))
 }
 
-// The upper 5 percent limit of a reference, before spreads are looked at; none off the ladder.
+// The upper 5 percent limit of a reference, before spreads are looked at; none outside the ladder's ends.
 #[unsafe(no_mangle)]
 pub extern "C" fn hendovita_five_percent_upper(reference: u32) -> PriceFound
     ensures { result ≡ price_found (percent_upper_found (ladder phase1) five_percent reference) }
@@ -136,7 +136,7 @@ pub extern "C" fn hendovita_five_percent_upper(reference: u32) -> PriceFound
     PriceFound::from(limits::five_percent_upper(reference))
 }
 
-// A fresh day with this previous close; 0 is none. A close that is no ladder price gets 12, and the day has none.
+// A fresh day with this previous close; 0 is none. A close outside the ladder's ends gets 12, and the day has none.
 #[unsafe(no_mangle)]
 pub extern "C" fn hendovita_open_day(previous_close: u32) -> EnteredNumbers
     ensures { result ≡ entered_numbers (opened (ladder phase1) (reference_of previous_close)) }

@@ -1,7 +1,6 @@
 -- What the verdict accepts: ladder prices that are shown, and nothing else.
 use mathlib.Core.Path.{◌≡◌, refl}
 use Prim.Native.Nat.{ℕ}
-use borrow.Author.Tests.{le-ltb}
 use mathlib.Core.Bool.{Bool, true, false, not, cond, ◌&&◌}
 use lib.Dec.{T, eqb, leb}
 use Rattle.facts.proofs.Tests.{below}
@@ -19,9 +18,7 @@ use Rattle.judging.specs.Laws.{not_refused}
 
 -- a ladder price is not outside the ends
 inside : (t : Table) → T (well_formed t) → (p : ℕ) → T (is_ladder_price p t) → outside (ladder t) p ≡ false
-inside t wf p h =
-    let ends = ladder_laws.ends_are_the_tables t wf in
-    rw (le-ltb _ _ (ends.none_below p h), le-ltb _ _ (ends.none_above p h))
+inside t wf p h = (ladder_laws.ends_are_the_tables t wf).none_outside p h
 
 pub accepts : (t : Table) → T (well_formed t) → (range : Range) (p : ℕ) →
     eqb (verdict_number (verdict_of (ladder t) range p)) 0 ≡ (is_ladder_price p t && is_shown range p)

@@ -17,7 +17,7 @@ use Rattle.questions.specs.declared.Reference.TheVariants.{Missing, Price}
 use Rattle.ranges.specs.declared.Range.{Range}
 use Rattle.judging.specs.Shown.{fold, passes, is_shown, shown_of}
 use Rattle.judging.specs.Cutting.{cut_lowest, cut_highest, none_between, shown_between}
-use Rattle.judging.proofs.Windows.{Window, none_from, none_to, none_between_lem, first_found, latest_found}
+use Rattle.judging.proofs.Windows.{Window, over_zero, none_from, none_to, none_between_lem, first_found, latest_found}
 
 pub within : (lowest highest : ℕ) (nine : Reference) (p : ℕ) → T (leb lowest p && leb p highest && passes nine p) →
     (cut_lowest lowest nine ≤ p) × (p ≤ cut_highest highest nine)
@@ -53,7 +53,7 @@ window t wf range from to e f =
       within = λ p h i. rw (e, f) (within range.lowest range.highest range.nine_fold p i);
       passes =
           λ p h a b.
-          without range.lowest range.highest range.nine_fold p (ladder_laws.never_zero t wf p h) (rw e at a) (rw f at b);
+          without range.lowest range.highest range.nine_fold p (over_zero t wf p h) (rw e at a) (rw f at b);
     }
 
 -- what is shown, from what going through the ladder finds

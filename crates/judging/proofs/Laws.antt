@@ -31,7 +31,7 @@ use Rattle.judging.specs.Numbers.{wrong_length, refusal_number, verdict_number}
 use Rattle.judging.specs.Answers.{none_shown, answer_on, answer_by, answer_decoded, judged}
 use Rattle.judging.specs.Laws.{ShownIsExactly, LadderRange, RangeOrNone, not_refused, SameRange, AnyOrderPrice, is_question_number, is_refusal, QuestionNumbers, JudgingLaws}
 use Rattle.judging.proofs.Cuts.{window}
-use Rattle.judging.proofs.Windows.{exactly}
+use Rattle.judging.proofs.Windows.{over_zero, exactly}
 use Rattle.judging.proofs.Acceptance.{accepts, judged_number}
 use Rattle.judging.proofs.Fields.{same_codes, same_references}
 
@@ -120,7 +120,7 @@ none_up_to_zero t wf n p lowest highest e high accepted =
     let h : T (is_ladder_price p t && leb lowest p && leb p highest) = rw e at (true_of (eqb n 0) (eq-eqb n 0 accepted)) in
     let on : T (is_ladder_price p t) = and_left (is_ladder_price p t) (leb lowest p) (and_left (is_ladder_price p t && leb lowest p) (leb p highest) h) in
     let up_to : p ≤ highest = leb→le p highest (and_right (is_ladder_price p t && leb lowest p) (leb p highest) h) in
-    let over : 0 < p = ladder_laws.never_zero t wf p on in
+    let over : 0 < p = over_zero t wf p on in
     omega arith
 
 any_order_price : AnyOrderPrice

@@ -16,6 +16,10 @@ pub record Window (t : Table) (test : ℕ → Bool) (from to : ℕ) : Type 0 whe
   pub within : (p : ℕ) → T (is_ladder_price p t) → T (test p) → (from ≤ p) × (p ≤ to)
   pub passes : (p : ℕ) → T (is_ladder_price p t) → from ≤ p → p ≤ to → T (test p)
 
+-- no ladder price is 0
+pub over_zero : (t : Table) → T (well_formed t) → (p : ℕ) → T (is_ladder_price p t) → 0 < p
+over_zero t wf p h = ladder_laws.never_zero t wf p ((ladder_laws.ends_are_the_tables t wf).none_outside p h)
+
 module _ (t : Table) (wf : T (well_formed t)) (test : ℕ → Bool) (from to : ℕ) (w : Window t test from to) where
   -- what passes is at least `from` and at most `to`
   over : (x : ℕ) → T (is_ladder_price x t) → T (test x) → T (at_least 1 from x)
@@ -79,7 +83,7 @@ module _ (t : Table) (wf : T (well_formed t)) (test : ℕ → Bool) (from to : �
       largest = ladder_laws.latest_is_largest t wf test
 
       pos : 0 < p
-      pos = ladder_laws.never_zero t wf p h
+      pos = over_zero t wf p h
 
       go : (f g : Option ℕ) → first test (ladder t) ≡ f → latest test (ladder t) ≡ g → test p ≡ (leb (or_else 0 f) p && leb p (or_else 0 g))
       go (Some a) (Some b) e f =

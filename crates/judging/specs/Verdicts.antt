@@ -1,9 +1,9 @@
 -- The verdict on a price against a permitted range. "Checks run in number order; the first that applies is the answer."
 -- Each of these checks is caused by the client who enters the order. Document 01, "Why a question comes back".
-use Rattle.std.specs.Prelude.{ℕ, Bool, not, cond, ◌||◌, ltb}
+use Rattle.std.specs.Prelude.{ℕ, Bool, not, cond, ltb}
 use Rattle.ladder.specs.Ladder.{Prices}
 use Rattle.facts.specs.Lists.{holds}
-use Rattle.ladder.specs.Places.{first_price, last_price}
+use Rattle.ladder.specs.Places.{is_outside}
 use Rattle.ranges.specs.declared.Range.{Range}
 use Rattle.judging.specs.declared.Verdict.{Verdict}
 use Rattle.judging.specs.declared.Verdict.TheVariants.{Accepted, OutsideLadder, BetweenPrices, BelowLowest, AboveHighest, NineFold}
@@ -11,7 +11,7 @@ use Rattle.judging.specs.Shown.{passes}
 
 -- 6: "price under 0.010 or over 9,995.000": the ends of the ladder
 abbrev pub outside : Prices → ℕ → Bool
-outside l p = ltb p (first_price l) || ltb (last_price l) p
+outside l p = is_outside p l
 
 -- 7: "price between two ladder prices": off the ladder, but within its ends, since check 6 comes first
 abbrev pub off_ladder : Prices → ℕ → Bool

@@ -1,25 +1,18 @@
 // The verdict on a price against a permitted range: checks 6 to 10 in number order.
 ghost use Rattle.std.specs.Prelude.{◌≡◌};
 ghost use Rattle.ladder.specs.Layout.{prices_of};
-ghost use Rattle.judging.specs.Verdicts.{outside, verdict_of};
+ghost use Rattle.judging.specs.Verdicts.{verdict_of};
 
 use super::{Verdict, showing};
 use ladder::table::SpreadTable;
 use ranges::Range;
-
-// Whether a price is under the first ladder price or over the last.
-pub fn is_outside(table: &SpreadTable, price: u32) -> bool
-    ensures { result ≡ outside (prices_of table.now) price }
-{
-    !(table.first_price()..=table.last_price()).contains(&price)
-}
 
 // The verdict on a price.
 #[tactic(auto, unfolding(crate::specs::Verdicts::verdict_of))]
 pub fn verdict_on(table: &SpreadTable, range: Range, price: u32) -> Verdict
     ensures { result ≡ verdict_of (prices_of table.now) range price }
 {
-    if is_outside(table, price) {
+    if table.is_outside(price) {
         return Verdict::OutsideLadder;
     }
     if !table.holds(price) {

@@ -1,32 +1,31 @@
 -- The laws of specs/Laws.antt, proved. Other crates see them as fields of ladder_laws, and nothing else of this folder.
 use Rattle.std.specs.Prelude.{Option, Some, None}
 use mathlib.Core.Path.{◌≡◌, refl, ap, sym, ◌∙◌}
-use Prim.Native.Nat.{ℕ, ◌+◌, ◌-◌, ◌≤◌}
-use native.Mathlib.Nat.{zero-add, le_refl, le_trans, le_of_lt}
+use Prim.Native.Nat.{ℕ, ◌+◌, ◌-◌, ◌≤◌, ◌<◌}
+use native.Mathlib.Nat.{zero-add, le_refl, le_trans}
 use native.Mathlib.Omega.{arith}
 use mathlib.Core.Bool.{Bool, true, false, cond}
 use mathlib.Core.List.{List}
 use lib.Dec.{T, ltb→lt, lt→ltb}
 use lib.ListN.{length}
 use Rattle.facts.specs.Lists.{holds}
-use Rattle.facts.proofs.Tests.{passed, true_of}
 use Rattle.ladder.specs.declared.Band.{Band}
 use Rattle.ladder.specs.Bands.{phase1, chained, well_formed}
 use Rattle.ladder.specs.Ladder.{rungs, band_prices, ladder, is_ladder_price}
 use Rattle.ladder.specs.Search.{first, latest_after, latest, above, below}
-use Rattle.ladder.specs.Places.{price_at, place_of, last_after}
-use Rattle.ladder.specs.Spreads.{spread_up, spread_down, times, if_held}
+use Rattle.ladder.specs.Places.{price_at, place_of, last_after, first_price, last_price, is_outside}
+use Rattle.ladder.specs.Spreads.{spread_up, spread_down, times, if_within}
 use Rattle.ladder.specs.Laws.{ThePhase1Table, TheLadder, LadderRises, EndsAreTheTables, NeverZero, PlacesAreInverse}
 use Rattle.ladder.specs.Laws.{Extreme, Least, Greatest, NonePasses, Finds, FirstIsSmallest, LatestIsLargest}
-use Rattle.ladder.specs.Laws.{SpreadUpIsNext, SpreadDownIsPrevious, SpreadsStay, OnlyFromTheLadder, NThenM, GoingByPlaces, UpThenDown}
+use Rattle.ladder.specs.Laws.{SpreadUpIsNext, SpreadDownIsPrevious, FirstToTheNearest, SpreadsStay, OnlyWithinTheEnds, NothingWithoutALadder, NThenM, GoingByPlaces, UpThenDown}
 use Rattle.ladder.specs.Laws.{SpreadsKeepOrder, RoundingKeepsOrder, LadderLaws}
-use Rattle.ladder.proofs.Lists.Ends.{over_first, under_last, first_held, last_held}
+use Rattle.ladder.proofs.Lists.Ends.{over_first, under_last, first_held, last_held, Within, within, not_outside, held_within}
 use Rattle.ladder.proofs.Lists.Entries.{at_place, past, entry_held, held_entry, place_of_entry, place_off, entry_of_place}
 use Rattle.ladder.proofs.Lists.Extremes.{Best, NonePass, FoundIs, result_is, result_none, least_one, greatest_one, first_result, latest_result}
 use Rattle.ladder.proofs.Lists.Moves.{times_add}
 use Rattle.ladder.proofs.Lists.Going.{ups_entry, downs_entry}
-use Rattle.ladder.proofs.Lists.Order.{up_by, down_by, up_on, down_on, times_on, times_lead, spreads_up_order, spreads_down_order}
-use Rattle.ladder.proofs.Lists.Order.{at_least_order, at_most_order}
+use Rattle.ladder.proofs.Lists.Order.{up_by, down_by, up_leads, down_leads, up_on, down_on, up_lands, down_lands, times_keep, times_lead}
+use Rattle.ladder.proofs.Lists.Order.{spreads_up_order, spreads_down_order, at_least_order, at_most_order}
 use Rattle.ladder.proofs.Tables.Table.{start, start_held, table_facts, first_is_start, last_is_top, ladder_rises as rises}
 use Rattle.ladder.proofs.Tables.Members.{the_members}
 
@@ -60,10 +59,13 @@ ends_are_the_tables t wf =
       last_on = priced t wf _ (last_held (ladder t) (start t) (start_held t wf));
       none_below = λ p on. over_first (ladder t) (rises t wf) p (listed t wf p on);
       none_above = λ p on. under_last (ladder t) (rises t wf) p (listed t wf p on);
+      none_outside = λ p on. held_within (ladder t) (rises t wf) p (listed t wf p on);
+      within = λ p w. let r = within (ladder t) p w in (r.low, r.high);
+      not_outside = λ p low high. not_outside (ladder t) (start t) p (start_held t wf) (record { low = low; high = high });
     }
 
 never_zero : NeverZero
-never_zero t wf p on = omega (arith, (ends_are_the_tables t wf).none_below p on, first_is_start t wf, (table_facts t wf).positive)
+never_zero t wf p w = omega (arith, (within (ladder t) p w).low, first_is_start t wf, (table_facts t wf).positive)
 
 -- ---- places
 
@@ -137,74 +139,121 @@ spread_down_is_previous t wf p =
       stays = λ bottom. stayed t wf Greatest (below p) p _ by (λ q on m. absurd (omega (arith, bottom q on, ltb→lt q p m)));
     }
 
-spreads_stay : SpreadsStay
-spreads_stay t wf n p on =
+-- a spread stays within the ends
+module _ (t : List Band) (wf : T (well_formed t)) where
+  abbrev l : List ℕ
+  l = ladder t
+
+  up_inside : (p : ℕ) → is_outside p l ≡ false → is_outside (spread_up l p) l ≡ false
+  up_inside p w = held_within l (rises t wf) _ (up_lands l (rises t wf) (start t) (start_held t wf) p (within l p w))
+
+  down_inside : (p : ℕ) → is_outside p l ≡ false → is_outside (spread_down l p) l ≡ false
+  down_inside p w = held_within l (rises t wf) _ (down_lands l (rises t wf) (start t) (start_held t wf) p (within l p w))
+
+-- the first spread to the nearest: p is off the ladder, so that both ends lie beyond it
+first_to_the_nearest : FirstToTheNearest
+unfolding times
+first_to_the_nearest t wf p w off =
     let l = ladder t in
+    let up = (spread_up_is_next t wf p).moves (last_price l) (ends_are_the_tables t wf).last_on last_above in
+    let down = (spread_down_is_previous t wf p).moves (first_price l) (ends_are_the_tables t wf).first_on first_below in
     record {
-      up_on = priced t wf _ (times_on l (spread_up l) (up_on l (rises t wf)) n p (listed t wf p on));
-      down_on = priced t wf _ (times_on l (spread_down l) (down_on l (rises t wf)) n p (listed t wf p on));
-      up_above = times_lead ◌≤◌ le_refl (λ x y z a b. le_trans a b) (spread_up l) up n p;
-      down_below = times_lead (λ x y. y ≤ x) le_refl (λ x y z a b. le_trans b a) (spread_down l) down n p;
+      above_has = (spread_up l p, up);
+      up =
+          λ q n b.
+          nearest (spread_up l) (up_inside t wf) n q
+          (least_one q (spread_up l p) (b.extreme _ up.on up.passes) (up.extreme q b.on b.passes));
+      below_has = (spread_down l p, down);
+      down =
+          λ q n b.
+          nearest (spread_down l) (down_inside t wf) n q
+          (greatest_one q (spread_down l p) (b.extreme _ down.on down.passes) (down.extreme q b.on b.passes));
     }
   where
-    up : (x : ℕ) → x ≤ spread_up (ladder t) x
-    up x = up_by (ladder t) (rises t wf) x (λ q. x ≤ q) (λ q b. le_of_lt (ltb→lt x q b.passes)) (λ n. le_refl x)
+    ends : Within (ladder t) p
+    ends = within (ladder t) p w
 
-    down : (x : ℕ) → spread_down (ladder t) x ≤ x
-    down x = down_by (ladder t) (rises t wf) x (λ q. q ≤ x) (λ q b. le_of_lt (ltb→lt q x b.passes)) (λ n. le_refl x)
+    last_above : p < last_price (ladder t)
+    last_above = let not : p ≡ last_price (ladder t) → ⊥ = λ e. off (rw e (ends_are_the_tables t wf).last_on) in omega (arith, ends.high)
 
-only_from_the_ladder : OnlyFromTheLadder
-only_from_the_ladder p l number =
+    first_below : first_price (ladder t) < p
+    first_below = let not : p ≡ first_price (ladder t) → ⊥ = λ e. off (rw e (ends_are_the_tables t wf).first_on) in omega (arith, ends.low)
+
+    nearest : (step : ℕ → ℕ) → ((x : ℕ) → is_outside x (ladder t) ≡ false → is_outside (step x) (ladder t) ≡ false) → (n q : ℕ) → q ≡ step p →
+        if_within p (ladder t) (times n step (step p)) ≡ if_within q (ladder t) (times n step q)
+    nearest step keeps n q e = rw (e, w, keeps p w)
+
+spreads_stay : SpreadsStay
+unfolding times
+spreads_stay t wf n p =
+    let l = ladder t in
+    let r = rises t wf in
     record {
-      held = λ h. rw (passed (holds p l) h);
-      price = λ q e. price q (holds p l) refl e;
-      nothing = λ e. nothing (holds p l) refl e;
+      up_above = times_lead ◌≤◌ le_refl (λ x y z a b. le_trans a b) (spread_up l) (up_leads l r) n p;
+      down_below = times_lead (λ x y. y ≤ x) le_refl (λ x y z a b. le_trans b a) (spread_down l) (down_leads l r) n p;
+      up_on = λ on. stays (spread_up l) (up_on l r) n p (listed t wf p on);
+      down_on = λ on. stays (spread_down l) (down_on l r) n p (listed t wf p on);
+      up_lands = λ w. stays (spread_up l) (up_on l r) n (spread_up l p) (up_lands l r (start t) (start_held t wf) p (within l p w));
+      down_lands = λ w. stays (spread_down l) (down_on l r) n (spread_down l p) (down_lands l r (start t) (start_held t wf) p (within l p w));
     }
   where
-    price : (q : ℕ) (v : Bool) → holds p l ≡ v → cond v (Some number) None ≡ Some q → (holds p l ≡ true) × (q ≡ number)
-    price q true h i = (h, (cc))
-    price q false h i = absurd (grind arith)
+    stays : (step : ℕ → ℕ) → ((p : ℕ) → T (holds p (ladder t)) → T (holds (step p) (ladder t))) → (n p : ℕ) → T (holds p (ladder t)) →
+        T (is_ladder_price (times n step p) t)
+    stays step on n p h = priced t wf _ (times_keep (λ q. T (holds q (ladder t))) step on n p h)
 
-    nothing : (v : Bool) → holds p l ≡ v → cond v (Some number) None ≡ None → holds p l ≡ false
-    nothing true h i = absurd (grind arith)
-    nothing false h i = h
+only_within_the_ends : OnlyWithinTheEnds
+only_within_the_ends p l number =
+    record {
+      within = λ w. rw w;
+      price = λ q e. price q (is_outside p l) refl e;
+      nothing = λ e. nothing (is_outside p l) refl e;
+    }
+  where
+    price : (q : ℕ) (v : Bool) → is_outside p l ≡ v → cond v None (Some number) ≡ Some q → (is_outside p l ≡ false) × (q ≡ number)
+    price q true h i = absurd (grind arith)
+    price q false h i = (h, (cc))
 
--- n steps and then m, for any step that stays on the list
-adds : (l : List ℕ) (step : ℕ → ℕ) → ((p : ℕ) → T (holds p l) → T (holds (step p) l)) → (n m p q : ℕ) →
-    if_held p l (times n step p) ≡ Some q → if_held q l (times m step q) ≡ if_held p l (times (n + m) step p)
-adds l step on n m p q e =
-    let r = (only_from_the_ladder p l (times n step p)).price q e in
-    let held_q : holds q l ≡ true = passed (holds q l) (rw r.1 (times_on l step on n p (true_of (holds p l) r.0))) in
-    rw (held_q, r.0) (ap Some (ap (times m step) r.1 ∙ sym (times_add step n m p)))
+    nothing : (v : Bool) → is_outside p l ≡ v → cond v None (Some number) ≡ None → is_outside p l ≡ true
+    nothing true h i = h
+    nothing false h i = absurd (grind arith)
+
+nothing_without_a_ladder : NothingWithoutALadder
+unfolding is_outside
+nothing_without_a_ladder p number = refl
+
+-- n steps and then m, for any step that stays within the ends
+adds : (l : List ℕ) (step : ℕ → ℕ) → ((p : ℕ) → is_outside p l ≡ false → is_outside (step p) l ≡ false) → (n m p q : ℕ) →
+    if_within p l (times n step p) ≡ Some q → if_within q l (times m step q) ≡ if_within p l (times (n + m) step p)
+adds l step keeps n m p q e =
+    let r = (only_within_the_ends p l (times n step p)).price q e in
+    let inside : is_outside q l ≡ false = rw r.1 (times_keep (λ x. is_outside x l ≡ false) step keeps n p r.0) in
+    rw (inside, r.0) (ap Some (ap (times m step) r.1 ∙ sym (times_add step n m p)))
 
 n_then_m : NThenM
 n_then_m t wf n m p q =
     record {
-      up = adds (ladder t) (spread_up (ladder t)) (up_on (ladder t) (rises t wf)) n m p q;
-      down = adds (ladder t) (spread_down (ladder t)) (down_on (ladder t) (rises t wf)) n m p q;
+      up = adds (ladder t) (spread_up (ladder t)) (up_inside t wf) n m p q;
+      down = adds (ladder t) (spread_down (ladder t)) (down_inside t wf) n m p q;
     }
 
 going_by_places : GoingByPlaces
 going_by_places t wf k p n e =
     let at = (places_are_inverse t wf).price_of_place k p e in
-    let on = passed (holds p (ladder t)) (entry_held (ladder t) k p at) in
+    let w = held_within (ladder t) (rises t wf) p (entry_held (ladder t) k p at) in
     record {
-      up = rw on (sym (ups_entry (ladder t) (rises t wf) n k p at));
-      down = rw on (sym (downs_entry (ladder t) (rises t wf) n k p at));
+      up = rw w (sym (ups_entry (ladder t) (rises t wf) n k p at));
+      down = rw w (sym (downs_entry (ladder t) (rises t wf) n k p at));
     }
 
 up_then_down : UpThenDown
-unfolding phase1 ladder band_prices rungs holds first latest_after spread_up spread_down times
+unfolding phase1 ladder band_prices rungs is_outside last_after first latest_after spread_up spread_down times
 up_then_down = record { up = refl; then_down = refl }
 
 -- ---- order
 
 spreads_keep_order : SpreadsKeepOrder
-spreads_keep_order t wf n p q h k m =
-    record {
-      up = spreads_up_order (ladder t) (rises t wf) n p q (listed t wf p h) (listed t wf q k) m;
-      down = spreads_down_order (ladder t) (rises t wf) n p q (listed t wf p h) (listed t wf q k) m;
-    }
+spreads_keep_order t wf n p q m =
+    record { up = spreads_up_order (ladder t) (rises t wf) n p q m; down = spreads_down_order (ladder t) (rises t wf) n p q m }
 
 rounding_keeps_order : RoundingKeepsOrder
 rounding_keeps_order t wf scale y z m =
@@ -228,8 +277,10 @@ ladder_laws =
       latest_is_largest = latest_is_largest;
       spread_up_is_next = spread_up_is_next;
       spread_down_is_previous = spread_down_is_previous;
+      first_to_the_nearest = first_to_the_nearest;
       spreads_stay = spreads_stay;
-      only_from_the_ladder = only_from_the_ladder;
+      only_within_the_ends = only_within_the_ends;
+      nothing_without_a_ladder = nothing_without_a_ladder;
       n_then_m = n_then_m;
       going_by_places = going_by_places;
       up_then_down = up_then_down;

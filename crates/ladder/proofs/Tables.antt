@@ -4,6 +4,7 @@ pub mod Table
 pub mod Members
 pub mod Landing
 pub mod Stands
+pub mod Starts
 pub mod Walks
 pub mod Counting
 pub mod Rise

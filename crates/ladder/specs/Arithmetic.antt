@@ -1,4 +1,4 @@
--- Band arithmetic: where a threshold lands, where a price stands, one turn of a walk, and so many places up.
+-- Band arithmetic: where a threshold lands, in which band a price lies and whether it stands there, one turn of a walk, and so many places up.
 -- Only functions inside this crate speak of these; what other crates may call is told by the other files.
 use Rattle.std.specs.Prelude.{◌≡◌, ℕ, zero, suc, ◌+◌, ◌-◌, ◌*◌, ◌/◌, ◌%◌, ◌≤◌, ◌<◌, cond, List, [], ◌∷◌, leb, ltb, length, get_or, Option, Some, None, position, count_by}
 use Rattle.ladder.specs.declared.turns.Turn.{Turn}
@@ -8,7 +8,7 @@ use Rattle.ladder.specs.Bands.{Table, no_band}
 use Rattle.ladder.specs.Ladder.{width, ladder}
 use Rattle.facts.specs.Lists.{holds}
 use Rattle.ladder.specs.Search.{first, latest, at_least, at_most}
-use Rattle.ladder.specs.Places.{price_at}
+use Rattle.ladder.specs.Places.{price_at, is_outside}
 
 -- how many bands, from the first, end below y: their top, times scale, is less than y. Where y lands on the table, this is the
 -- index of its band; above the table it is the number of bands
@@ -24,11 +24,21 @@ first_from scale y t = position (λ b. leb y (scale * b.top)) t
 abbrev pub count_below : ℕ → ℕ → Table → ℕ
 count_below scale y t = count_by (λ b. ltb (scale * b.top) y) t
 
+-- the band of a price within the ends
+abbrev pub band_of : ℕ → Table → Option ℕ
+band_of p t = cond (is_outside p (ladder t)) None (Some (bands_below 1 p t))
+
 -- the band of a ladder price
 abbrev pub standing_of : ℕ → Table → Option ℕ
 standing_of p t = cond (holds p (ladder t)) (Some (bands_below 1 p t)) None
 
--- p stands in band k of a table, or on its bottom
+-- p lies in band k of a table, or on its bottom
+pub record LiesIn (t : Table) (k p : ℕ) : Type 0 where
+  pub index : k < length t
+  pub low : (get_or t k no_band).bottom ≤ p
+  pub high : p ≤ (get_or t k no_band).top
+
+-- p stands there: it lies in the band, and is a ladder price
 pub record StandsIn (t : Table) (k p : ℕ) : Type 0 where
   pub index : k < length t
   pub low : (get_or t k no_band).bottom ≤ p

@@ -1,13 +1,13 @@
 -- The laws of the ladder, over any well-formed table, in the order in which a reader meets the notions: table, list, places, searches, spreads,
 -- order. Each is a field of the record LadderLaws at the end, which proofs/Laws.antt proves as ladder_laws: TheLadder is the field the_ladder.
 -- That band arithmetic ends where the plain count ends is not a law in this list: it is what the contracts of the calls say.
-use Rattle.std.specs.Prelude.{◌≡◌, ℕ, ◌+◌, ◌-◌, min, ◌≤◌, ◌<◌, Bool, true, false, T, length, get_or, Option, Some, None}
+use Rattle.std.specs.Prelude.{◌≡◌, ℕ, suc, ◌+◌, ◌-◌, min, ◌≤◌, ◌<◌, Bool, true, false, [], T, length, get_or, Option, Some, None}
 use Rattle.facts.specs.Lists.{holds, Rising}
 use Rattle.ladder.specs.Bands.{Table, no_band, phase1, well_formed}
 use Rattle.ladder.specs.Ladder.{Prices, ladder, is_ladder_price}
 use Rattle.ladder.specs.Search.{first, latest, or_else, above, below, at_least, at_most}
-use Rattle.ladder.specs.Places.{price_at, place_of, first_price, last_price}
-use Rattle.ladder.specs.Spreads.{spread_up, spread_down, times, if_held, spreads_up, spreads_down}
+use Rattle.ladder.specs.Places.{price_at, place_of, first_price, last_price, is_outside}
+use Rattle.ladder.specs.Spreads.{spread_up, spread_down, times, if_within, spreads_up, spreads_down}
 
 -- ---- the Phase 1 table
 
@@ -31,7 +31,8 @@ TheLadder = (t : Table) → T (well_formed t) → (p : ℕ) → holds p (ladder 
 abbrev pub LadderRises : Type 0
 LadderRises = (t : Table) → T (well_formed t) → Rising (ladder t)
 
--- Its ends are the first bottom and the last top, they are ladder prices, and no ladder price lies outside them.
+-- Its ends are the first bottom and the last top, they are ladder prices, and no ladder price lies outside them. What is not outside lies from
+-- the first price to the last.
 pub record Ends (t : Table) : Type 0 where
   pub first_is_bottom : first_price (ladder t) ≡ (get_or t 0 no_band).bottom
   pub last_is_top : last_price (ladder t) ≡ (get_or t (length t - 1) no_band).top
@@ -39,13 +40,16 @@ pub record Ends (t : Table) : Type 0 where
   pub last_on : T (is_ladder_price (last_price (ladder t)) t)
   pub none_below : (p : ℕ) → T (is_ladder_price p t) → first_price (ladder t) ≤ p
   pub none_above : (p : ℕ) → T (is_ladder_price p t) → p ≤ last_price (ladder t)
+  pub none_outside : (p : ℕ) → T (is_ladder_price p t) → is_outside p (ladder t) ≡ false
+  pub within : (p : ℕ) → is_outside p (ladder t) ≡ false → (first_price (ladder t) ≤ p) × (p ≤ last_price (ladder t))
+  pub not_outside : (p : ℕ) → first_price (ladder t) ≤ p → p ≤ last_price (ladder t) → is_outside p (ladder t) ≡ false
 
 abbrev pub EndsAreTheTables : Type 0
 EndsAreTheTables = (t : Table) → T (well_formed t) → Ends t
 
--- No ladder price is 0, so 0 can stand for a price that is missing.
+-- No price within the ends is 0, so 0 can stand for a price that is missing.
 abbrev pub NeverZero : Type 0
-NeverZero = (t : Table) → T (well_formed t) → (p : ℕ) → T (is_ladder_price p t) → 0 < p
+NeverZero = (t : Table) → T (well_formed t) → (p : ℕ) → is_outside p (ladder t) ≡ false → 0 < p
 
 -- ---- places
 
@@ -95,7 +99,7 @@ LatestIsLargest = (t : Table) → T (well_formed t) → (test : ℕ → Bool) �
 
 -- ---- spreads
 
--- A single spread up is the smallest ladder price above p, and stays where there is none.
+-- A single spread up is the smallest ladder price above p, and stays where there is none: from any p, on the ladder or off it.
 pub record SingleUp (t : Table) (p : ℕ) : Type 0 where
   pub moves : (x : ℕ) → T (is_ladder_price x t) → p < x → Extreme Least t (above p) (spread_up (ladder t) p)
   pub stays : ((x : ℕ) → T (is_ladder_price x t) → x ≤ p) → spread_up (ladder t) p ≡ p
@@ -111,24 +115,43 @@ pub record SingleDown (t : Table) (p : ℕ) : Type 0 where
 abbrev pub SpreadDownIsPrevious : Type 0
 SpreadDownIsPrevious = (t : Table) → T (well_formed t) → (p : ℕ) → SingleDown t p
 
--- n spreads from a ladder price end on the ladder, up not below it and down not above it.
+-- From a price within the ends that is no ladder price, the first spread goes to the nearest ladder price that way, and counts as one: n + 1
+-- spreads from p are n spreads from that price.
+pub record Nearest (t : Table) (p : ℕ) : Type 0 where
+  pub above_has : (q : ℕ) × Extreme Least t (above p) q
+  pub up : (q n : ℕ) → Extreme Least t (above p) q → spreads_up (ladder t) p (suc n) ≡ spreads_up (ladder t) q n
+  pub below_has : (q : ℕ) × Extreme Greatest t (below p) q
+  pub down : (q n : ℕ) → Extreme Greatest t (below p) q → spreads_down (ladder t) p (suc n) ≡ spreads_down (ladder t) q n
+
+abbrev pub FirstToTheNearest : Type 0
+FirstToTheNearest =
+    (t : Table) → T (well_formed t) → (p : ℕ) → is_outside p (ladder t) ≡ false → (T (is_ladder_price p t) → ⊥) → Nearest t p
+
+-- n spreads from a price end up not below it and down not above it. From a ladder price they end on the ladder; from any other price within
+-- the ends they do once at least one spread is taken.
 pub record Stays (t : Table) (n p : ℕ) : Type 0 where
-  pub up_on : T (is_ladder_price (times n (spread_up (ladder t)) p) t)
-  pub down_on : T (is_ladder_price (times n (spread_down (ladder t)) p) t)
   pub up_above : p ≤ times n (spread_up (ladder t)) p
   pub down_below : times n (spread_down (ladder t)) p ≤ p
+  pub up_on : T (is_ladder_price p t) → T (is_ladder_price (times n (spread_up (ladder t)) p) t)
+  pub down_on : T (is_ladder_price p t) → T (is_ladder_price (times n (spread_down (ladder t)) p) t)
+  pub up_lands : is_outside p (ladder t) ≡ false → T (is_ladder_price (times (suc n) (spread_up (ladder t)) p) t)
+  pub down_lands : is_outside p (ladder t) ≡ false → T (is_ladder_price (times (suc n) (spread_down (ladder t)) p) t)
 
 abbrev pub SpreadsStay : Type 0
-SpreadsStay = (t : Table) → T (well_formed t) → (n p : ℕ) → T (is_ladder_price p t) → Stays t n p
+SpreadsStay = (t : Table) → T (well_formed t) → (n p : ℕ) → Stays t n p
 
--- What is asked from a price p is answered from a price on the list, by the number due, and from no other.
+-- What is asked from a price p is answered where p lies within the ends, by the number due, and from no other price.
 pub record Answers (p : ℕ) (l : Prices) (number : ℕ) : Type 0 where
-  pub held : T (holds p l) → if_held p l number ≡ Some number
-  pub price : (q : ℕ) → if_held p l number ≡ Some q → (holds p l ≡ true) × (q ≡ number)
-  pub nothing : if_held p l number ≡ None → holds p l ≡ false
+  pub within : is_outside p l ≡ false → if_within p l number ≡ Some number
+  pub price : (q : ℕ) → if_within p l number ≡ Some q → (is_outside p l ≡ false) × (q ≡ number)
+  pub nothing : if_within p l number ≡ None → is_outside p l ≡ true
 
-abbrev pub OnlyFromTheLadder : Type 0
-OnlyFromTheLadder = (p : ℕ) (l : Prices) (number : ℕ) → Answers p l number
+abbrev pub OnlyWithinTheEnds : Type 0
+OnlyWithinTheEnds = (p : ℕ) (l : Prices) (number : ℕ) → Answers p l number
+
+-- Where a ladder has no price, no step and no limit is answered, whatever the price it is asked from.
+abbrev pub NothingWithoutALadder : Type 0
+NothingWithoutALadder = (p number : ℕ) → if_within p [] number ≡ None
 
 -- n spreads, and then m from where they end, are n + m spreads: up, and down.
 pub record Adds (t : Table) (n m p q : ℕ) : Type 0 where
@@ -153,14 +176,13 @@ pub record UpThenDown : Type 0 where
 
 -- ---- order
 
--- Of two ladder prices the higher one is no lower after n spreads up, nor after n spreads down.
+-- Of two prices, on the ladder or off it, the higher one is no lower after n spreads up, nor after n spreads down.
 pub record SpreadsOrdered (t : Table) (n p q : ℕ) : Type 0 where
   pub up : times n (spread_up (ladder t)) p ≤ times n (spread_up (ladder t)) q
   pub down : times n (spread_down (ladder t)) p ≤ times n (spread_down (ladder t)) q
 
 abbrev pub SpreadsKeepOrder : Type 0
-SpreadsKeepOrder =
-    (t : Table) → T (well_formed t) → (n p q : ℕ) → T (is_ladder_price p t) → T (is_ladder_price q t) → p ≤ q → SpreadsOrdered t n p q
+SpreadsKeepOrder = (t : Table) → T (well_formed t) → (n p q : ℕ) → p ≤ q → SpreadsOrdered t n p q
 
 -- Of two thresholds the higher one is rounded to no lower price, where the end of the ladder stands in for no price.
 pub record RoundingOrdered (t : Table) (scale y z : ℕ) : Type 0 where
@@ -185,8 +207,10 @@ pub record LadderLaws : Type 0 where
   pub latest_is_largest : LatestIsLargest
   pub spread_up_is_next : SpreadUpIsNext
   pub spread_down_is_previous : SpreadDownIsPrevious
+  pub first_to_the_nearest : FirstToTheNearest
   pub spreads_stay : SpreadsStay
-  pub only_from_the_ladder : OnlyFromTheLadder
+  pub only_within_the_ends : OnlyWithinTheEnds
+  pub nothing_without_a_ladder : NothingWithoutALadder
   pub n_then_m : NThenM
   pub going_by_places : GoingByPlaces
   pub up_then_down : UpThenDown

@@ -1,5 +1,5 @@
--- Places: the first price of a ladder has place 0, the next 1, and so on; and the ends of a ladder. Document 01, "The ladder".
-use Rattle.std.specs.Prelude.{ℕ, zero, suc, cond, List, [], ◌∷◌, eqb, Option, Some, None}
+-- Places: the first price of a ladder has place 0, the next 1, and so on; and the ends of a ladder. Document 01, "The ladder"; document 02, b.
+use Rattle.std.specs.Prelude.{ℕ, zero, suc, Bool, true, cond, ◌||◌, List, [], ◌∷◌, eqb, ltb, Option, Some, None}
 
 -- the price at a place; nothing above the last place
 unfoldable pub price_at : ℕ → List ℕ → Option ℕ
@@ -28,3 +28,8 @@ last_after kept (q ∷ qs) = last_after q qs
 
 abbrev pub last_price : List ℕ → ℕ
 last_price l = last_after 0 l
+
+-- a price outside the ends: below the first price, or above the last. Outside a ladder with no price lies every price
+unfoldable pub is_outside : ℕ → List ℕ → Bool
+is_outside p [] = true
+is_outside p (q ∷ qs) = ltb p (first_price (q ∷ qs)) || ltb (last_price (q ∷ qs)) p

@@ -4,13 +4,13 @@
 // is well formed, as each is by its type. Prices are whole mils.
 #![tactic(auto)]
 
-mod search; // search.rt: the band where a threshold lands, and where a price stands
+mod search; // search.rt: the band where a threshold lands, and that of a price
 mod turns; // turns.rt: one band of a walk
 mod rise; // rise.rt: so many places up, from a price of a band
 mod places; // places.rt: place to price, price to place
 mod steps; // steps.rt: n spreads up and down
 mod rounding; // rounding.rt: the ladder prices next to a threshold
-mod ends; // ends.rt: the first and the last price
+mod ends; // ends.rt: the first and the last price, and what is outside them
 pub mod numbers; // numbers.rt: products that do not wrap
 pub mod table; // table.rt: spread tables, and that of Phase 1
 
@@ -45,14 +45,14 @@ pub fn place_of(price: u32) -> Option<u32>
     phase_1().place_of(price)
 }
 
-// The price n spreads up, halting at the last; none from a price off the ladder.
+// The price n spreads up, halting at the last; none from a price outside the ends.
 pub fn up(price: u32, n: u64) -> Option<u32>
     ensures { result ≡ spreads_up (ladder phase1) price n }
 {
     phase_1().up(price, n)
 }
 
-// The price n spreads down, halting at the first; none from a price off the ladder.
+// The price n spreads down, halting at the first; none from a price outside the ends.
 pub fn down(price: u32, n: u64) -> Option<u32>
     ensures { result ≡ spreads_down (ladder phase1) price n }
 {

@@ -1,7 +1,7 @@
-// The one search for a band: where a threshold lands, and where a price stands.
+// The one search for a band: where a threshold lands, in which band a price lies, and whether it stands on the ladder there.
 ghost use Rattle.std.specs.Prelude.{◌≡◌, ◌<◌, length, get_or};
 ghost use Rattle.ladder.specs.Bands.{no_band};
-ghost use Rattle.ladder.specs.Arithmetic.{bands_below, first_from, count_below, standing_of};
+ghost use Rattle.ladder.specs.Arithmetic.{bands_below, first_from, count_below, band_of, standing_of};
 
 use super::Band;
 use super::numbers::product;
@@ -46,15 +46,22 @@ impl SpreadTable<'_> {
         }
     }
 
+    // The index of the band in which a price lies; none for a price outside the ends.
+    pub(crate) fn band_of(&self, price: u32) -> Option<usize>
+        ensures { result ≡ band_of price self.now.bands.now }
+    {
+        if self.is_outside(price) {
+            return None;
+        }
+        Some(self.bands_below(1, u64::from(price)))
+    }
+
     // The index of the band in which a price stands; none for a price off the ladder.
     pub(crate) fn standing_of(&self, price: u32) -> Option<usize>
         ensures { result ≡ standing_of price self.now.bands.now }
     {
-        let k = self.bands_below(1, u64::from(price));
-        let band = self.bands.get(k)?;
-        if price < band.bottom {
-            return None;
-        }
+        let k = self.band_of(price)?;
+        let band = self.band_at(k);
         let is_on = (price - band.bottom) % band.spread == 0;
         is_on.then_some(k)
     }

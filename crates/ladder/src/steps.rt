@@ -1,4 +1,6 @@
 // n spreads up and down. A walk takes at once as many spreads as the band still has that way, and carries the rest into the next band.
+// A walk is among ladder prices only. From a price between two of them it starts at the one behind: its first spread ends at the one ahead,
+// where the first spread from the price itself ends.
 ghost use Rattle.std.specs.Prelude.{◌≡◌};
 ghost use Rattle.ladder.specs.Layout.{prices_of};
 ghost use Rattle.ladder.specs.Arithmetic.{StandsIn};
@@ -8,7 +10,7 @@ use super::table::SpreadTable;
 use super::turns::{Turn, turn_in};
 
 impl SpreadTable<'_> {
-    // The price n spreads below a price of the band with this index.
+    // The price n spreads below a ladder price of the band with this index.
     fn walk_down(&self, index: usize, price: u32, n: u64) -> u32
         requires { StandsIn self.now.bands.now index price }
         ensures { result ≡ times n (spread_down (prices_of self.now)) price }
@@ -29,19 +31,29 @@ impl SpreadTable<'_> {
         at
     }
 
-    // The price n spreads up, halting at the last; none from a price off the ladder.
+    // The price n spreads up, halting at the last; none from a price outside the ends.
     pub fn up(&self, price: u32, n: u64) -> Option<u32>
         ensures { result ≡ spreads_up (prices_of self.now) price n }
     {
-        let index = self.standing_of(price)?;
-        Some(self.rise(index, price, n).unwrap_or(self.last_price()))
+        let index = self.band_of(price)?;
+        if n == 0 {
+            return Some(price);
+        }
+        let band = self.band_at(index);
+        let behind = price - (price - band.bottom) % band.spread;
+        Some(self.rise(index, behind, n).unwrap_or(self.last_price()))
     }
 
-    // The price n spreads down, halting at the first; none from a price off the ladder.
+    // The price n spreads down, halting at the first; none from a price outside the ends.
     pub fn down(&self, price: u32, n: u64) -> Option<u32>
         ensures { result ≡ spreads_down (prices_of self.now) price n }
     {
-        let index = self.standing_of(price)?;
-        Some(self.walk_down(index, price, n))
+        let index = self.band_of(price)?;
+        if n == 0 {
+            return Some(price);
+        }
+        let band = self.band_at(index);
+        let behind = price + (band.top - price) % band.spread;
+        Some(self.walk_down(index, behind, n))
     }
 }

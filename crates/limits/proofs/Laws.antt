@@ -1,15 +1,17 @@
 -- The laws of specs/Laws.antt, proved from the laws of the ladder. Other crates see them as fields of limit_laws.
 use Rattle.std.specs.Prelude.{Option, Some, None}
 use mathlib.Core.Path.{◌≡◌, refl}
-use Prim.Native.Nat.{ℕ, ◌*◌, ◌≤◌}
-use native.Mathlib.Nat.{mul-le-mul_left, mul-le-mul_right}
+use Prim.Native.Nat.{ℕ, ◌-◌, ◌*◌, ◌≤◌}
+use native.Mathlib.Nat.{mul-le-mul, mul-le-mul_left}
 use native.Mathlib.Omega.{arith}
+use mathlib.Core.Bool.{false}
 use lib.Dec.{T, le→leb}
 use Rattle.facts.proofs.Numbers.{of_smaller, of_larger}
 use Rattle.ladder.specs.Bands.{Table, phase1}
 use Rattle.ladder.specs.Ladder.{ladder, is_ladder_price}
 use Rattle.ladder.specs.Search.{first, latest, or_else, at_least, at_most}
-use Rattle.ladder.specs.Spreads.{if_held}
+use Rattle.ladder.specs.Places.{is_outside}
+use Rattle.ladder.specs.Spreads.{if_within}
 use Rattle.ladder.proofs.Laws.{ladder_laws}
 use Rattle.limits.specs.Limits.{limit_spreads, five_percent, lower_limit, upper_limit}
 use Rattle.limits.specs.Laws.{PercentageFinds, LimitsEnclose, LimitsAreOrdered, NoSmaller, HigherReference, LimitLaws}
@@ -20,24 +22,29 @@ finds (Some q) never = (q, refl)
 finds None never = absurd (never refl)
 
 percentage_finds : PercentageFinds
-percentage_finds t wf percent r on =
+percentage_finds t wf percent r w =
     let scale = percent.scale in
+    let ends = ladder_laws.ends_are_the_tables t wf in
     record {
       lower =
           λ m.
           finds (first (at_least scale (percent.lower * r)) (ladder t))
-          (λ e. (ladder_laws.first_is_smallest t wf (at_least scale (percent.lower * r))).nothing e r on (le→leb _ _ (mul-le-mul_right r m)));
+          (λ e.
+          (ladder_laws.first_is_smallest t wf (at_least scale (percent.lower * r))).nothing e _ ends.last_on
+          (le→leb _ _ (mul-le-mul m (ends.within r w).1)));
       upper =
           λ m.
           finds (latest (at_most scale (percent.upper * r)) (ladder t))
-          (λ e. (ladder_laws.latest_is_largest t wf (at_most scale (percent.upper * r))).nothing e r on (le→leb _ _ (mul-le-mul_right r m)));
+          (λ e.
+          (ladder_laws.latest_is_largest t wf (at_most scale (percent.upper * r))).nothing e _ ends.first_on
+          (le→leb _ _ (mul-le-mul m (ends.within r w).0)));
     }
 
 -- ---- order
 
 limits_are_ordered : LimitsAreOrdered
-limits_are_ordered t wf percent p q h k m =
-    let spreads = ladder_laws.spreads_keep_order t wf limit_spreads p q h k m in
+limits_are_ordered t wf percent p q m =
+    let spreads = ladder_laws.spreads_keep_order t wf limit_spreads p q m in
     let lower = ladder_laws.rounding_keeps_order t wf percent.scale _ _ (mul-le-mul_left percent.lower m) in
     let upper = ladder_laws.rounding_keeps_order t wf percent.scale _ _ (mul-le-mul_left percent.upper m) in
     record { lower = omega (arith, spreads.down, lower.at_least_lem); upper = omega (arith, spreads.up, upper.at_most_lem) }
@@ -51,37 +58,39 @@ rounded_on t (Some q) end on found = found q refl
 rounded_on t None end on found = on
 
 limits_enclose : LimitsEnclose
-limits_enclose t wf percent r on =
-    let spreads = ladder_laws.spreads_stay t wf limit_spreads r on in
+limits_enclose t wf percent r w =
+    let spreads = ladder_laws.spreads_stay t wf limit_spreads r in
+    let lands = ladder_laws.spreads_stay t wf (limit_spreads - 1) r in
     let ends = ladder_laws.ends_are_the_tables t wf in
     let at_least_lem = ladder_laws.first_is_smallest t wf (at_least percent.scale (percent.lower * r)) in
     let at_most_lem = ladder_laws.latest_is_largest t wf (at_most percent.scale (percent.upper * r)) in
     record {
-      lower_on = of_smaller (λ q. T (is_ladder_price q t)) _ _ spreads.down_on (rounded_on t _ _ ends.last_on (λ q e. (at_least_lem.found q e).on));
-      upper_on = of_larger (λ q. T (is_ladder_price q t)) _ _ spreads.up_on (rounded_on t _ _ ends.first_on (λ q e. (at_most_lem.found q e).on));
+      lower_on = of_smaller (λ q. T (is_ladder_price q t)) _ _ (lands.down_lands w) (rounded_on t _ _ ends.last_on (λ q e. (at_least_lem.found q e).on));
+      upper_on = of_larger (λ q. T (is_ladder_price q t)) _ _ (lands.up_lands w) (rounded_on t _ _ ends.first_on (λ q e. (at_most_lem.found q e).on));
       lower_below = omega (arith, spreads.down_below);
       upper_above = omega (arith, spreads.up_above);
     }
 
 -- ---- demand 3c
 
--- a limit of two ladder prices, from the numbers that it has for them
-no_smaller : (limit : ℕ → ℕ) (p q : ℕ) → T (is_ladder_price p phase1) → T (is_ladder_price q phase1) → limit p ≤ limit q →
-    NoSmaller (λ r. if_held r (ladder phase1) (limit r)) p q
-no_smaller limit p q h k m =
-    record { of_p = limit p; of_q = limit q; p_has = has p h; q_has = has q k; ordered = m }
-  where
-    has : (r : ℕ) → T (is_ladder_price r phase1) → if_held r (ladder phase1) (limit r) ≡ Some (limit r)
-    has r on =
-        (ladder_laws.only_from_the_ladder r (ladder phase1) (limit r)).held
-        (rw (ladder_laws.the_ladder phase1 ladder_laws.the_phase1_table.well_formed_lem r) on)
+-- a limit of two references, from the numbers that it has for them
+no_smaller : (limit : ℕ → ℕ) (p q : ℕ) → is_outside p (ladder phase1) ≡ false → is_outside q (ladder phase1) ≡ false → limit p ≤ limit q →
+    NoSmaller (λ r. if_within r (ladder phase1) (limit r)) p q
+no_smaller limit p q v w m =
+    record {
+      of_p = limit p;
+      of_q = limit q;
+      p_has = (ladder_laws.only_within_the_ends p (ladder phase1) (limit p)).within v;
+      q_has = (ladder_laws.only_within_the_ends q (ladder phase1) (limit q)).within w;
+      ordered = m;
+    }
 
 higher_reference : HigherReference
-higher_reference p q h k m =
-    let ordered = limits_are_ordered phase1 ladder_laws.the_phase1_table.well_formed_lem five_percent p q h k m in
+higher_reference p q v w m =
+    let ordered = limits_are_ordered phase1 ladder_laws.the_phase1_table.well_formed_lem five_percent p q m in
     record {
-      lower = no_smaller (lower_limit (ladder phase1) five_percent) p q h k ordered.lower;
-      upper = no_smaller (upper_limit (ladder phase1) five_percent) p q h k ordered.upper;
+      lower = no_smaller (lower_limit (ladder phase1) five_percent) p q v w ordered.lower;
+      upper = no_smaller (upper_limit (ladder phase1) five_percent) p q v w ordered.upper;
     }
 
 pub limit_laws : LimitLaws

@@ -1,3 +1,2 @@
--- Laws: what other crates see. Either: what holds of the two limits alike.
+-- Laws: what other crates see.
 pub mod Laws
-mod Either

@@ -1,22 +1,24 @@
 -- The laws of the limits. Each is a field of the record LimitLaws at the end, which proofs/Laws.antt proves as limit_laws: LimitsAreOrdered is
 -- the field limits_are_ordered.
-use Rattle.std.specs.Prelude.{◌≡◌, ℕ, ◌*◌, ◌≤◌, T, Option, Some}
+use Rattle.std.specs.Prelude.{◌≡◌, ℕ, ◌*◌, ◌≤◌, false, T, Option, Some}
 use Rattle.ladder.specs.Bands.{Table, phase1, well_formed}
 use Rattle.ladder.specs.Ladder.{ladder, is_ladder_price}
 use Rattle.ladder.specs.Search.{first, latest, at_least, at_most}
+use Rattle.ladder.specs.Places.{is_outside}
 use Rattle.limits.specs.declared.Percentage.{Percentage}
 use Rattle.limits.specs.Limits.{five_percent, lower_limit, upper_limit, lower_limit_found, upper_limit_found}
 
--- A percentage limit of a ladder price always finds a price, where the percentage is taken off for the lower limit and added for the
--- upper one, as at 5 percent: the reference itself is one. The end of the ladder stands in only at other percentages.
+-- A percentage limit of a price within the ends always finds a price, where the percentage is taken off for the lower limit and added for the
+-- upper one, as at 5 percent: for the lower limit the last ladder price passes, for the upper the first. The end of the ladder stands in only at
+-- other percentages.
 pub record FindsPrices (t : Table) (percent : Percentage) (r : ℕ) : Type 0 where
   pub lower : percent.lower ≤ percent.scale → (q : ℕ) × (first (at_least percent.scale (percent.lower * r)) (ladder t) ≡ Some q)
   pub upper : percent.scale ≤ percent.upper → (q : ℕ) × (latest (at_most percent.scale (percent.upper * r)) (ladder t) ≡ Some q)
 
 abbrev pub PercentageFinds : Type 0
-PercentageFinds = (t : Table) → T (well_formed t) → (percent : Percentage) (r : ℕ) → T (is_ladder_price r t) → FindsPrices t percent r
+PercentageFinds = (t : Table) → T (well_formed t) → (percent : Percentage) (r : ℕ) → is_outside r (ladder t) ≡ false → FindsPrices t percent r
 
--- The limits of a ladder price are ladder prices, the lower one not above it and the upper one not below it.
+-- The limits of a price within the ends are ladder prices, the lower one not above it and the upper one not below it.
 pub record Encloses (t : Table) (percent : Percentage) (r : ℕ) : Type 0 where
   pub lower_on : T (is_ladder_price (lower_limit (ladder t) percent r) t)
   pub upper_on : T (is_ladder_price (upper_limit (ladder t) percent r) t)
@@ -24,17 +26,15 @@ pub record Encloses (t : Table) (percent : Percentage) (r : ℕ) : Type 0 where
   pub upper_above : r ≤ upper_limit (ladder t) percent r
 
 abbrev pub LimitsEnclose : Type 0
-LimitsEnclose = (t : Table) → T (well_formed t) → (percent : Percentage) (r : ℕ) → T (is_ladder_price r t) → Encloses t percent r
+LimitsEnclose = (t : Table) → T (well_formed t) → (percent : Percentage) (r : ℕ) → is_outside r (ladder t) ≡ false → Encloses t percent r
 
--- Of two ladder prices as references the higher one has no smaller limit: over any well-formed table, at any percentage.
+-- Of two references, on the ladder or off it, the higher one has no smaller limit: over any well-formed table, at any percentage.
 pub record Ordered (t : Table) (percent : Percentage) (p q : ℕ) : Type 0 where
   pub lower : lower_limit (ladder t) percent p ≤ lower_limit (ladder t) percent q
   pub upper : upper_limit (ladder t) percent p ≤ upper_limit (ladder t) percent q
 
 abbrev pub LimitsAreOrdered : Type 0
-LimitsAreOrdered =
-    (t : Table) → T (well_formed t) → (percent : Percentage) (p q : ℕ) → T (is_ladder_price p t) → T (is_ladder_price q t) → p ≤ q →
-    Ordered t percent p q
+LimitsAreOrdered = (t : Table) → T (well_formed t) → (percent : Percentage) (p q : ℕ) → p ≤ q → Ordered t percent p q
 
 -- both references have a limit, and that of the higher one, q, is not the smaller
 pub record NoSmaller (limit : ℕ → Option ℕ) (p q : ℕ) : Type 0 where
@@ -44,13 +44,13 @@ pub record NoSmaller (limit : ℕ → Option ℕ) (p q : ℕ) : Type 0 where
   pub q_has : limit q ≡ Some of_q
   pub ordered : of_p ≤ of_q
 
--- Demand 3c, on Phase 1 at 5 percent: for every two ladder prices as references, the higher never has a smaller lower or upper limit.
+-- Demand 3c, on Phase 1 at 5 percent: for every two prices within the ends as references, the higher never has a smaller lower or upper limit.
 pub record HigherHasNoSmaller (p q : ℕ) : Type 0 where
   pub lower : NoSmaller (lower_limit_found (ladder phase1) five_percent) p q
   pub upper : NoSmaller (upper_limit_found (ladder phase1) five_percent) p q
 
 abbrev pub HigherReference : Type 0
-HigherReference = (p q : ℕ) → T (is_ladder_price p phase1) → T (is_ladder_price q phase1) → p ≤ q → HigherHasNoSmaller p q
+HigherReference = (p q : ℕ) → is_outside p (ladder phase1) ≡ false → is_outside q (ladder phase1) ≡ false → p ≤ q → HigherHasNoSmaller p q
 
 -- ---- all of them
 

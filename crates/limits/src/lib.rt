@@ -23,28 +23,28 @@ pub struct Percentage {
     pub upper: u32,
 }
 
-// The smallest ladder price no more than 5 percent below a reference; none from a reference off the ladder.
+// The smallest ladder price no more than 5 percent below a reference; none from a reference outside the ends.
 pub fn five_percent_lower(reference: u32) -> Option<u32>
     ensures { result ≡ percent_lower_found (ladder phase1) five_percent reference }
 {
     usual().percent_lower(reference)
 }
 
-// The largest ladder price no more than 5 percent above a reference; none from a reference off the ladder.
+// The largest ladder price no more than 5 percent above a reference; none from a reference outside the ends.
 pub fn five_percent_upper(reference: u32) -> Option<u32>
     ensures { result ≡ percent_upper_found (ladder phase1) five_percent reference }
 {
     usual().percent_upper(reference)
 }
 
-// The lower limit of a reference; none from a reference off the ladder.
+// The lower limit of a reference; none from a reference outside the ends.
 pub fn lower_limit(reference: u32) -> Option<u32>
     ensures { result ≡ lower_limit_found (ladder phase1) five_percent reference }
 {
     usual().lower_limit(reference)
 }
 
-// The upper limit of a reference; none from a reference off the ladder.
+// The upper limit of a reference; none from a reference outside the ends.
 pub fn upper_limit(reference: u32) -> Option<u32>
     ensures { result ≡ upper_limit_found (ladder phase1) five_percent reference }
 {

@@ -9,7 +9,7 @@ use super::terms::Terms;
 const LIMIT_SPREADS: u64 = 24;
 
 impl Terms<'_> {
-    // The lower limit: the smaller of so many spreads down and the percentage limit; none from a reference off the ladder.
+    // The lower limit: the smaller of so many spreads down and the percentage limit; none from a reference outside the ends.
     pub fn lower_limit(&self, reference: u32) -> Option<u32>
         ensures { result ≡ lower_limit_found (prices_of self.now.table) self.now.percentage reference }
     {
@@ -17,7 +17,7 @@ impl Terms<'_> {
         Some(spreads.min(self.rounded_up(reference)))
     }
 
-    // The upper limit: the larger of so many spreads up and the percentage limit; none from a reference off the ladder.
+    // The upper limit: the larger of so many spreads up and the percentage limit; none from a reference outside the ends.
     pub fn upper_limit(&self, reference: u32) -> Option<u32>
         ensures { result ≡ upper_limit_found (prices_of self.now.table) self.now.percentage reference }
     {

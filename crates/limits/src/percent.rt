@@ -27,21 +27,17 @@ impl Terms<'_> {
             .unwrap_or(self.table.first_price())
     }
 
-    // The lower percentage limit; none from a reference off the ladder.
+    // The lower percentage limit; none from a reference outside the ends.
     pub fn percent_lower(&self, reference: u32) -> Option<u32>
         ensures { result ≡ percent_lower_found (prices_of self.now.table) self.now.percentage reference }
     {
-        self.table
-            .holds(reference)
-            .then_some(self.rounded_up(reference))
+        (!self.table.is_outside(reference)).then_some(self.rounded_up(reference))
     }
 
-    // The upper percentage limit; none from a reference off the ladder.
+    // The upper percentage limit; none from a reference outside the ends.
     pub fn percent_upper(&self, reference: u32) -> Option<u32>
         ensures { result ≡ percent_upper_found (prices_of self.now.table) self.now.percentage reference }
     {
-        self.table
-            .holds(reference)
-            .then_some(self.rounded_down(reference))
+        (!self.table.is_outside(reference)).then_some(self.rounded_down(reference))
     }
 }

@@ -4,15 +4,21 @@ use Prim.Native.Nat.{ℕ, ◌%◌}
 use native.Mathlib.Omega.{arith}
 use mathlib.Core.Bool.{Bool, true, false, ◌&&◌}
 use lib.Dec.{T, ltb}
-use borrow.Author.Tests.{ltb-true, lt-ltb, ne_eqb}
+use borrow.Author.Tests.{ltb-true, lt-ltb, ne_eqb, not-false}
+use Rattle.facts.specs.Lists.{holds}
+use Rattle.std.proofs.Math.Bool.{or-false}
+use Rattle.facts.proofs.Tests.{true_of}
 use Rattle.little_endian.specs.Numbers.{number, four_bytes}
 use Rattle.little_endian.specs.Laws.{byte_bound, number_bound}
 use Rattle.little_endian.proofs.Laws.{number_laws}
+use Rattle.ladder.specs.Ladder.{ladder}
+use Rattle.ladder.proofs.Laws.{ladder_laws}
 use Rattle.questions.specs.declared.Reference.{Reference}
 use Rattle.questions.specs.declared.Reference.TheVariants.{Missing, Price}
 use Rattle.questions.specs.Missing.{reference_of, number_of}
 use Rattle.questions.specs.Record.{codes_of, references_of, bytes_of}
-use Rattle.questions.specs.Laws.{is_writable, BytesDecode, are_bytes, BytesFit, QuestionLaws}
+use Rattle.questions.specs.Checks.{any_off}
+use Rattle.questions.specs.Laws.{is_writable, BytesDecode, are_bytes, BytesFit, NoneOutside, CheckedAlike, QuestionLaws}
 
 -- a reference is the reference of its four bytes
 reference_back : (r : Reference) → T (is_writable r) → reference_of (number 0 (four_bytes (number_of r))) ≡ r
@@ -56,5 +62,18 @@ bytes_fit q fits =
       byte_fits,
     )
 
+-- ---- check 3
+
+none_outside : NoneOutside
+none_outside t wf Missing on = refl
+none_outside t wf (Price p) on =
+    (ladder_laws.ends_are_the_tables t wf).none_outside p
+    (rw (← (ladder_laws.the_ladder t wf p)) (true_of (holds p (ladder t)) (not-false (holds p (ladder t)) on)))
+
+checked_alike : CheckedAlike
+unfolding any_off
+checked_alike t wf r close nominal = rw (close, nominal, none_outside t wf r.previous_close close, none_outside t wf r.nominal nominal) (simp or-false)
+
 pub question_laws : QuestionLaws
-question_laws = record { bytes_decode = bytes_decode; bytes_fit = bytes_fit }
+question_laws =
+    record { bytes_decode = bytes_decode; bytes_fit = bytes_fit; none_outside = none_outside; checked_alike = checked_alike }

@@ -1,7 +1,8 @@
 -- Check 3, by the reference feed; and pairs of a low and a high, which check 4 looks at (rules/specs/Checks.antt). Document 01, "Why a question
--- comes back".
+-- comes back"; document 02, b.
 use Rattle.std.specs.Prelude.{Bool, false, not, cond, ◌||◌}
 use Rattle.ladder.specs.Ladder.{Prices}
+use Rattle.ladder.specs.Places.{is_outside}
 use Rattle.facts.specs.Lists.{holds}
 use Rattle.questions.specs.declared.Reference.{Reference}
 use Rattle.questions.specs.declared.Reference.TheVariants.{Missing, Price}
@@ -17,10 +18,15 @@ abbrev pub is_off : Prices → Reference → Bool
 is_off l Missing = false
 is_off l (Price p) = not (holds p l)
 
+-- but "the previous close and the nominal may be any price within the ladder's ends", and are refused only outside them
+abbrev pub lies_outside : Prices → Reference → Bool
+lies_outside l Missing = false
+lies_outside l (Price p) = is_outside p l
+
 unfoldable pub any_off : Prices → References → Bool
 any_off l r =
-    is_off l r.current_bid || is_off l r.current_ask || is_off l r.last_bid || is_off l r.last_ask ||
-    is_off l r.previous_close || is_off l r.day_low || is_off l r.day_high || is_off l r.nominal
+    is_off l r.current_bid || is_off l r.current_ask || is_off l r.last_bid || is_off l r.last_ask || is_off l r.day_low || is_off l r.day_high ||
+    lies_outside l r.previous_close || lies_outside l r.nominal
 
 -- "day low without day high or the reverse, or low above high"
 abbrev pub bad_pair : Reference → Reference → Bool

@@ -1,12 +1,16 @@
--- The laws of a question's bytes. Each is a field of the record QuestionLaws at the end, which proofs/Laws.antt proves as question_laws:
--- BytesDecode is the field bytes_decode.
-use Rattle.std.specs.Prelude.{◌≡◌, ◌<◌, Bool, true, ◌&&◌, [], ◌∷◌, T, ltb, Some}
+-- The laws of a question's bytes, and of check 3. Each is a field of the record QuestionLaws at the end, which proofs/Laws.antt proves as
+-- question_laws: BytesDecode is the field bytes_decode.
+use Rattle.std.specs.Prelude.{◌≡◌, ◌<◌, Bool, true, false, ◌&&◌, ◌||◌, [], ◌∷◌, T, ltb, Some}
 use Rattle.little_endian.specs.Numbers.{Bytes}
 use Rattle.little_endian.specs.Laws.{byte_bound, number_bound}
+use Rattle.ladder.specs.Bands.{Table, well_formed}
+use Rattle.ladder.specs.Ladder.{ladder}
 use Rattle.questions.specs.declared.Reference.{Reference}
 use Rattle.questions.specs.declared.Reference.TheVariants.{Missing, Price}
+use Rattle.questions.specs.declared.References.{References}
 use Rattle.questions.specs.declared.Question.{Question}
 use Rattle.questions.specs.Record.{decoded, bytes_of}
+use Rattle.questions.specs.Checks.{is_off, lies_outside, any_off}
 
 -- a reference that four bytes can hold: it is missing, or a price above 0, since 0 means missing
 abbrev pub is_writable : Reference → Bool
@@ -41,8 +45,24 @@ are_bytes (b ∷ rest) = ltb b byte_bound && are_bytes rest
 abbrev pub BytesFit : Type 0
 BytesFit = (q : Question) → Fits q → are_bytes (bytes_of q) ≡ true
 
+-- ---- check 3
+
+-- A ladder price does not lie outside the ends. So where previous close and nominal are ladder prices or missing, check 3 is one question put
+-- to all eight references: is there one that is no ladder price?
+abbrev pub NoneOutside : Type 0
+NoneOutside = (t : Table) → T (well_formed t) → (a : Reference) → is_off (ladder t) a ≡ false → lies_outside (ladder t) a ≡ false
+
+abbrev pub CheckedAlike : Type 0
+CheckedAlike =
+    (t : Table) → T (well_formed t) → (r : References) → is_off (ladder t) r.previous_close ≡ false → is_off (ladder t) r.nominal ≡ false →
+    any_off (ladder t) r ≡
+    (is_off (ladder t) r.current_bid || is_off (ladder t) r.current_ask || is_off (ladder t) r.last_bid || is_off (ladder t) r.last_ask ||
+    is_off (ladder t) r.previous_close || is_off (ladder t) r.day_low || is_off (ladder t) r.day_high || is_off (ladder t) r.nominal)
+
 -- ---- all of them
 
 pub record QuestionLaws : Type 0 where
   pub bytes_decode : BytesDecode
   pub bytes_fit : BytesFit
+  pub none_outside : NoneOutside
+  pub checked_alike : CheckedAlike

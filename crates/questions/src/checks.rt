@@ -1,8 +1,8 @@
-// Check 3, a reference off the ladder; and pairs of a low and a high, which check 4 looks at.
+// Check 3, a reference off the ladder, or a close or nominal outside its ends; and pairs of a low and a high, which check 4 looks at.
 ghost use Rattle.std.specs.Prelude.{◌≡◌};
 ghost use Rattle.std.specs.List.{list_any};
 ghost use Rattle.ladder.specs.Layout.{prices_of};
-ghost use Rattle.questions.specs.Checks.{is_off, any_off, bad_pair};
+ghost use Rattle.questions.specs.Checks.{is_off, lies_outside, any_off, bad_pair};
 
 use super::{Reference, References};
 use ladder::table::SpreadTable;
@@ -17,6 +17,16 @@ impl Reference {
             Reference::Price(price) => !table.holds(price),
         }
     }
+
+    // Whether a reference is present, but outside the ladder's ends.
+    pub fn lies_outside(self, table: &SpreadTable) -> bool
+        ensures { result ≡ lies_outside (prices_of table.now) self }
+    {
+        match self {
+            Reference::Missing => false,
+            Reference::Price(price) => table.is_outside(price),
+        }
+    }
 }
 
 // Whether any of some references is off the ladder.
@@ -27,24 +37,22 @@ pub fn any_off(references: &[Reference], table: &SpreadTable) -> bool
 }
 
 impl References {
-    // Whether any of the eight is off the ladder.
+    // Whether one is bad: one of six that are to be ladder prices, or previous close or nominal outside the ends.
     #[tactic(auto, unfolding(crate::specs::Checks::any_off))]
     pub fn any_off(self, table: &SpreadTable) -> bool
         ensures { result ≡ any_off (prices_of table.now) self }
     {
-        any_off(
-            &[
-                self.current_bid,
-                self.current_ask,
-                self.last_bid,
-                self.last_ask,
-                self.previous_close,
-                self.day_low,
-                self.day_high,
-                self.nominal,
-            ],
-            table,
-        )
+        let ladder_prices = [
+            self.current_bid,
+            self.current_ask,
+            self.last_bid,
+            self.last_ask,
+            self.day_low,
+            self.day_high,
+        ];
+        any_off(&ladder_prices, table)
+            | self.previous_close.lies_outside(table)
+            | self.nominal.lies_outside(table)
     }
 }
 

@@ -6,7 +6,7 @@
 pub mod decoding; // decoding.rt: a question from its bytes
 pub mod encoding; // encoding.rt: the bytes of a question
 mod missing; // missing.rt: references, each a price or missing
-pub mod checks; // checks.rt: references off the ladder, and pairs of a low and a high
+pub mod checks; // checks.rt: references off the ladder or outside its ends, and pairs of a low and a high
 pub mod code_names; // code_names.rt: the names of a question's codes
 
 // How many bytes a question has.

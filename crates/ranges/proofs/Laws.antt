@@ -18,7 +18,7 @@ use Rattle.rules.specs.declared.Queues.TheVariants.{Opening, Both, BuyOnly, Sell
 use Rattle.rules.specs.declared.Rule.{Rule}
 use Rattle.rules.specs.declared.Rule.TheVariants.{BuyLimit, BuyEnhanced, BuySpecial, SellLimit, SellEnhanced, SellSpecial}
 use Rattle.questions.specs.Missing.{present, price_or}
-use Rattle.questions.specs.Checks.{is_off, any_off}
+use Rattle.questions.specs.Checks.{is_off, lies_outside, any_off}
 use Rattle.rules.specs.Checks.{disagree, unopposed}
 use Rattle.rules.specs.Rules.{unknown_code, rule_of, queues_of, chosen, ask_of, bid_of}
 use Rattle.ranges.specs.declared.Range.{Range}
@@ -26,7 +26,7 @@ use Rattle.ranges.specs.declared.Refusal.{Refusal}
 use Rattle.ranges.specs.Bounds.{bottom, top}
 use Rattle.ranges.specs.Permitted.{buy_reference, sell_reference, lowest_of, highest_of, range_of}
 use Rattle.ranges.specs.Readings.{Reading, in_order, reading_by, reading_on, reading_of}
-use Rattle.ranges.specs.Laws.{On, StayOn, ReferencesStayOn, EndsOnLadder, BoundsOnLadder, RangeLaws}
+use Rattle.ranges.specs.Laws.{IfPresent, On, Within, StayOn, ReferencesStayOn, EndsOnLadder, BoundsOnLadder, RangeLaws}
 use Rattle.ranges.proofs.OnLadder.{above_on, below_on, stay_on}
 
 references_stay_on : ReferencesStayOn
@@ -36,23 +36,23 @@ module _ (t : Table) (wf : T (well_formed t)) (percent : Percentage) where
   stay : StayOn t percent
   stay = stay_on t wf percent
 
-  -- the references that rules look at are on the ladder, or missing
+  -- the references that rules look at are on the ladder, or missing; the close is within its ends
   record AllOn (r : References) : Type 0 where
     current_bid : On t r.current_bid
     current_ask : On t r.current_ask
     last_bid : On t r.last_bid
     last_ask : On t r.last_ask
-    previous_close : On t r.previous_close
+    previous_close : Within t r.previous_close
     day_low : On t r.day_low
     day_high : On t r.day_high
 
   all_on : (r : References) → any_off (ladder t) r ≡ false → AllOn r
   unfolding any_off
   all_on r off =
-      let a = or_parts _ (is_off (ladder t) r.nominal) off in
-      let b = or_parts _ (is_off (ladder t) r.day_high) a.0 in
-      let c = or_parts _ (is_off (ladder t) r.day_low) b.0 in
-      let d = or_parts _ (is_off (ladder t) r.previous_close) c.0 in
+      let a = or_parts _ (lies_outside (ladder t) r.nominal) off in
+      let b = or_parts _ (lies_outside (ladder t) r.previous_close) a.0 in
+      let c = or_parts _ (is_off (ladder t) r.day_high) b.0 in
+      let d = or_parts _ (is_off (ladder t) r.day_low) c.0 in
       let e = or_parts _ (is_off (ladder t) r.last_ask) d.0 in
       let f = or_parts _ (is_off (ladder t) r.last_bid) e.0 in
       let g = or_parts (is_off (ladder t) r.current_bid) (is_off (ladder t) r.current_ask) f.0 in
@@ -61,14 +61,14 @@ module _ (t : Table) (wf : T (well_formed t)) (percent : Percentage) where
         current_ask = stay.passed _ g.1;
         last_bid = stay.passed _ f.1;
         last_ask = stay.passed _ e.1;
-        previous_close = stay.passed _ d.1;
-        day_low = stay.passed _ c.1;
-        day_high = stay.passed _ b.1;
+        previous_close = stay.close_passed _ b.1;
+        day_low = stay.passed _ d.1;
+        day_high = stay.passed _ c.1;
       }
 
   -- what is missing is not off it
   none_on : On t Missing
-  unfolding On
+  unfolding IfPresent
   none_on = tt
 
   -- so are those that the queues hold
@@ -113,25 +113,29 @@ module _ (t : Table) (wf : T (well_formed t)) (percent : Percentage) where
   ask_on (Neither bid ask) h = none_on
 
   -- a reference, or none
-  none_or : (v : Bool) (r : Reference) → On t r → On t (cond v Missing r)
-  none_or true r h = none_on
+  none_or : (v : Bool) (r : Reference) → Within t r → Within t (cond v Missing r)
+  none_or true r h = stay.on_within _ none_on
   none_or false r h = h
 
-  buy_on : (q : Queues) (close low : Reference) → QueuesOn q → On t close → On t low → On t (buy_reference q close low)
+  buy_within : (q : Queues) (close low : Reference) → QueuesOn q → Within t close → On t low → Within t (buy_reference q close low)
   unfolding QueuesOn
-  buy_on Opening close low h k m = k
-  buy_on (Both bid ask) close low h k m = h.0
-  buy_on (BuyOnly bid) close low h k m = h
-  buy_on (SellOnly ask) close low h k m = stay.least_on _ _ h (stay.least_on _ _ k m)
-  buy_on (Neither bid ask) close low h k m = none_or (not (present close) && not (present low)) _ (stay.least_on _ _ h.1 (stay.least_on _ _ k m))
+  buy_within Opening close low h k m = k
+  buy_within (Both bid ask) close low h k m = stay.on_within _ h.0
+  buy_within (BuyOnly bid) close low h k m = stay.on_within _ h
+  buy_within (SellOnly ask) close low h k m = stay.least_within _ _ (stay.on_within _ h) (stay.least_within _ _ k (stay.on_within _ m))
+  buy_within (Neither bid ask) close low h k m =
+      none_or (not (present close) && not (present low)) _
+      (stay.least_within _ _ (stay.on_within _ h.1) (stay.least_within _ _ k (stay.on_within _ m)))
 
-  sell_on : (q : Queues) (close high : Reference) → QueuesOn q → On t close → On t high → On t (sell_reference q close high)
+  sell_within : (q : Queues) (close high : Reference) → QueuesOn q → Within t close → On t high → Within t (sell_reference q close high)
   unfolding QueuesOn
-  sell_on Opening close high h k m = k
-  sell_on (Both bid ask) close high h k m = h.1
-  sell_on (SellOnly ask) close high h k m = h
-  sell_on (BuyOnly bid) close high h k m = stay.greatest_on _ _ h (stay.greatest_on _ _ k m)
-  sell_on (Neither bid ask) close high h k m = none_or (not (present close) && not (present high)) _ (stay.greatest_on _ _ h.0 (stay.greatest_on _ _ k m))
+  sell_within Opening close high h k m = k
+  sell_within (Both bid ask) close high h k m = stay.on_within _ h.1
+  sell_within (SellOnly ask) close high h k m = stay.on_within _ h
+  sell_within (BuyOnly bid) close high h k m = stay.greatest_within _ _ (stay.on_within _ h) (stay.greatest_within _ _ k (stay.on_within _ m))
+  sell_within (Neither bid ask) close high h k m =
+      none_or (not (present close) && not (present high)) _
+      (stay.greatest_within _ _ (stay.on_within _ h.0) (stay.greatest_within _ _ k (stay.on_within _ m)))
 
   module _ (q : Queues) (r : References) (queues : QueuesOn q) (all : AllOn r) where
     -- a bound, or the end of the ladder
@@ -144,8 +148,8 @@ module _ (t : Table) (wf : T (well_formed t)) (percent : Percentage) where
     -- whichever quote a rule goes by, it is on the ladder
     lowest_on : (rule : Rule) → T (is_ladder_price (lowest_of (ladder t) percent rule q r) t)
     unfolding lowest_of
-    lowest_on BuyLimit = or_bottom _ (stay.lower_on _ (buy_on q _ _ queues all.previous_close all.day_low))
-    lowest_on BuyEnhanced = or_bottom _ (stay.lower_on _ (buy_on q _ _ queues all.previous_close all.day_low))
+    lowest_on BuyLimit = or_bottom _ (stay.lower_on _ (buy_within q _ _ queues all.previous_close all.day_low))
+    lowest_on BuyEnhanced = or_bottom _ (stay.lower_on _ (buy_within q _ _ queues all.previous_close all.day_low))
     lowest_on BuySpecial = search (or_bottom (ask_of q) (ask_on q queues), or_bottom (bid_of q) (bid_on q queues))
     lowest_on SellLimit = search (or_bottom (ask_of q) (ask_on q queues), or_bottom (bid_of q) (bid_on q queues))
     lowest_on SellEnhanced = search (or_bottom _ (below_on t wf (ask_of q) (ask_on q queues)), or_bottom _ (below_on t wf (bid_of q) (bid_on q queues)))
@@ -156,8 +160,8 @@ module _ (t : Table) (wf : T (well_formed t)) (percent : Percentage) where
     highest_on BuyLimit = search (or_top (ask_of q) (ask_on q queues), or_top (bid_of q) (bid_on q queues))
     highest_on BuyEnhanced = search (or_top _ (above_on t wf (ask_of q) (ask_on q queues)), or_top _ (above_on t wf (bid_of q) (bid_on q queues)))
     highest_on BuySpecial = (ladder_laws.ends_are_the_tables t wf).last_on
-    highest_on SellLimit = or_top _ (stay.upper_on _ (sell_on q _ _ queues all.previous_close all.day_high))
-    highest_on SellEnhanced = or_top _ (stay.upper_on _ (sell_on q _ _ queues all.previous_close all.day_high))
+    highest_on SellLimit = or_top _ (stay.upper_on _ (sell_within q _ _ queues all.previous_close all.day_high))
+    highest_on SellEnhanced = or_top _ (stay.upper_on _ (sell_within q _ _ queues all.previous_close all.day_high))
     highest_on SellSpecial = search (or_top (ask_of q) (ask_on q queues), or_top (bid_of q) (bid_on q queues))
 
 -- the range of a reading; of a refusal none is asked for

@@ -8,8 +8,9 @@ use Rattle.questions.specs.declared.Reference.{Reference}
 use Rattle.questions.specs.declared.Reference.TheVariants.{Missing, Price}
 use Rattle.questions.specs.Missing.{as_reference}
 
--- what a limit or a step finds from a reference (from a price off the ladder nothing: check 3 refuses it before its range is asked for); from one that is missing, nothing. Document 01's Low(R) of a reference that may be missing
--- is from_reference (lower_limit_found l percent) R, and High(R) the same with upper_limit_found
+-- what a limit or a step finds from a reference; from one that is missing, nothing. (From a price outside the ladder's ends it finds nothing
+-- either: check 3 refuses such a price before its range is asked for.) Document 01's Low(R) of a reference that may be missing is
+-- from_reference (lower_limit_found l percent) R, and High(R) the same with upper_limit_found
 abbrev pub from_reference : (ℕ → Option ℕ) → Reference → Reference
 from_reference find Missing = Missing
 from_reference find (Price r) = as_reference (find r)

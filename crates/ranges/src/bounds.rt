@@ -1,5 +1,5 @@
-// The two limits of a reference, and nine spreads from it. Each is missing where the reference is missing, and from a price off the
-// ladder too, which check 3 refuses before.
+// The two limits of a reference, and nine spreads from it. Each is missing where the reference is missing, and from a price outside
+// the ladder's ends too, which check 3 refuses before.
 ghost use Rattle.std.specs.Prelude.{◌≡◌};
 ghost use Rattle.ladder.specs.Layout.{prices_of};
 ghost use Rattle.limits.specs.Limits.{lower_limit_found, upper_limit_found};

@@ -22,7 +22,7 @@ pub struct Range {
 pub enum Refusal {
     // Side, order type or queue code unknown, or byte 3 not zero.
     UnknownCode = 2,
-    // A reference that is present but no ladder price.
+    // A reference that is present but no ladder price; of a previous close or a nominal price, outside the ladder's ends.
     OffLadder = 3,
     // References that disagree with the queue code, or with each other.
     Disagreement = 4,

@@ -5,7 +5,6 @@ use Prim.Native.Nat.{ℕ, ◌≤◌}
 use native.Mathlib.Omega.{arith}
 use mathlib.Core.Bool.{Bool, true, false, not, cond, ◌&&◌}
 use lib.Dec.{T, eqb, leb, leb→le}
-use borrow.Author.Tests.{le-ltb}
 use Rattle.ladder.specs.Bands.{Table, well_formed}
 use Rattle.ladder.specs.Ladder.{Prices, ladder, is_ladder_price}
 use Rattle.ladder.specs.Places.{first_price, last_price}
@@ -14,7 +13,8 @@ use Rattle.std.proofs.lemmas.Bool.{or_parts, true≢false}
 use Rattle.ladder.proofs.Laws.{ladder_laws}
 use Rattle.limits.specs.declared.Percentage.{Percentage}
 use Rattle.limits.specs.Limits.{lower_limit_found, upper_limit_found}
-use Rattle.questions.specs.Checks.{is_off, bad_pair}
+use Rattle.questions.specs.Checks.{is_off, lies_outside, bad_pair}
+use Rattle.questions.proofs.Laws.{question_laws}
 use Rattle.ranges.specs.declared.Range.{Range}
 use Rattle.ranges.specs.declared.Refusal.TheVariants.{OffLadder, Disagreement}
 use Rattle.ranges.specs.Bounds.{from_reference}
@@ -24,7 +24,7 @@ use Rattle.judging.specs.Verdicts.{outside, below_lowest, above_highest}
 use Rattle.judging.specs.Numbers.{verdict_number}
 use Rattle.trades.specs.declared.TradeReferences.{TradeReferences}
 use Rattle.trades.specs.Trades.{any_trade_off, trade_disagrees, trade_range, trade_reading, trade_verdict, trade_by, trade_judged}
-use Rattle.trades.specs.Laws.{is_trade_refusal, Numbers, TradeNumbers, FromTo, TradeRange, TradeLaws}
+use Rattle.trades.specs.Laws.{is_trade_refusal, Numbers, TradeNumbers, FromTo, TradeRange, TradeCheckedAlike, TradeLaws}
 use Rattle.trades.proofs.Pairs.{paired, range_rises, limits_paired}
 
 -- ---- the range
@@ -43,7 +43,7 @@ accepts t wf range p low high =
         let b : p ≤ range.highest = leb→le p range.highest (and_right (leb range.lowest p) _ h) in
         let first = (ladder_laws.ends_are_the_tables t wf).none_below range.lowest low in
         let last = (ladder_laws.ends_are_the_tables t wf).none_above range.highest high in
-        rw (le-ltb p (first_price (ladder t)) (omega arith), le-ltb (last_price (ladder t)) p (omega arith))
+        (ladder_laws.ends_are_the_tables t wf).not_outside p (omega arith) (omega arith)
 
     go : (o x y : Bool) → (T (x && y) → o ≡ false) →
         eqb (verdict_number (cond o OutsideLadder (cond (not x) BelowLowest (cond (not y) AboveHighest Accepted)))) 0 ≡ (x && y)
@@ -61,9 +61,9 @@ module _ (t : Table) (wf : T (well_formed t)) (percent : Percentage) (r : TradeR
       let a = or_parts _ (is_off (ladder t) r.highest_ask) off in
       let b = or_parts _ (is_off (ladder t) r.highest_bid) a.0 in
       let c = or_parts _ (is_off (ladder t) r.lowest_ask) b.0 in
-      let d = or_parts (is_off (ladder t) r.previous_close) (is_off (ladder t) r.lowest_bid) c.0 in
+      let d = or_parts (lies_outside (ladder t) r.previous_close) (is_off (ladder t) r.lowest_bid) c.0 in
       let stay = range_laws.references_stay_on t wf percent in
-      let close = stay.passed r.previous_close d.0 in
+      let close = stay.close_passed r.previous_close d.0 in
       let ends = ladder_laws.ends_are_the_tables t wf in
       let low =
       stay.price_on _ _ ends.first_on
@@ -123,5 +123,11 @@ trade_numbers l percent p d = go (any_trade_off l d) (trade_disagrees d)
     go false true = record { one_of = tt; refused = λ h. refl }
     go false false = priced l (trade_range l percent d) p
 
+-- ---- check 3
+
+trade_checked_alike : TradeCheckedAlike
+unfolding any_trade_off
+trade_checked_alike t wf r close = rw (close, question_laws.none_outside t wf r.previous_close close)
+
 pub trade_laws : TradeLaws
-trade_laws = record { trade_numbers = trade_numbers; trade_range_lem = trade_range_lem }
+trade_laws = record { trade_numbers = trade_numbers; trade_range_lem = trade_range_lem; trade_checked_alike = trade_checked_alike }

@@ -9,7 +9,6 @@ use borrow.Author.Tests.{ltb-false}
 use Rattle.ladder.specs.Bands.{Table, well_formed}
 use Rattle.ladder.specs.Ladder.{ladder}
 use Rattle.ladder.proofs.Laws.{ladder_laws}
-use Rattle.facts.specs.Lists.{holds}
 use Rattle.std.proofs.lemmas.Bool.{true≢false}
 use Rattle.limits.specs.declared.Percentage.{Percentage}
 use Rattle.limits.specs.Limits.{lower_limit, upper_limit, lower_limit_found, upper_limit_found}
@@ -19,7 +18,7 @@ use Rattle.questions.specs.declared.Reference.TheVariants.{Missing, Price}
 use Rattle.questions.specs.Missing.{least, greatest, price_or}
 use Rattle.questions.specs.Checks.{bad_pair}
 use Rattle.ranges.specs.Bounds.{from_reference}
-use Rattle.ranges.specs.Laws.{On}
+use Rattle.ranges.specs.Laws.{IfPresent, Within}
 
 -- ---- pairs
 
@@ -62,16 +61,15 @@ pub range_rises : (bottom top : ℕ) → bottom ≤ top → (a b c x y z : Refer
 range_rises bottom top m a b c x y z p q r =
     from_pair bottom top m _ _ (paired_ends a (least b c) x (greatest y z) p (paired_ends b c y z q r))
 
--- ---- the limits of a reference on the ladder
+-- ---- the limits of a reference within the ends
 
-pub limits_paired : (t : Table) → T (well_formed t) → (percent : Percentage) (close : Reference) → On t close →
+pub limits_paired : (t : Table) → T (well_formed t) → (percent : Percentage) (close : Reference) → Within t close →
     Paired (from_reference (lower_limit_found (ladder t) percent) close) (from_reference (upper_limit_found (ladder t) percent) close)
-unfolding On Paired
+unfolding IfPresent Paired
 limits_paired t wf percent Missing h = tt
-limits_paired t wf percent (Price c) h =
-    let held : T (holds c (ladder t)) = rw (ladder_laws.the_ladder t wf c) h in
-    let encloses = limit_laws.limits_enclose t wf percent c h in
+limits_paired t wf percent (Price c) w =
+    let encloses = limit_laws.limits_enclose t wf percent c w in
     rw (
-      (ladder_laws.only_from_the_ladder c (ladder t) (lower_limit (ladder t) percent c)).held held,
-      (ladder_laws.only_from_the_ladder c (ladder t) (upper_limit (ladder t) percent c)).held held,
+      (ladder_laws.only_within_the_ends c (ladder t) (lower_limit (ladder t) percent c)).within w,
+      (ladder_laws.only_within_the_ends c (ladder t) (upper_limit (ladder t) percent c)).within w,
     ) (le_trans encloses.lower_below encloses.upper_above)

@@ -1,14 +1,15 @@
 -- The laws of trades. Each is a field of the record TradeLaws at the end, which proofs/Laws.antt proves as trade_laws: TradeNumbers is the
 -- field trade_numbers.
-use Rattle.std.specs.Prelude.{◌≡◌, ℕ, Bool, ◌&&◌, ◌||◌, T, eqb, leb}
+use Rattle.std.specs.Prelude.{◌≡◌, ℕ, Bool, false, ◌&&◌, ◌||◌, T, eqb, leb}
 use Rattle.ladder.specs.Bands.{Table, well_formed}
 use Rattle.ladder.specs.Ladder.{Prices, ladder}
 use Rattle.limits.specs.declared.Percentage.{Percentage}
+use Rattle.questions.specs.Checks.{is_off}
 use Rattle.judging.specs.declared.Answer.{Answer}
 use Rattle.judging.specs.Answers.{none_shown}
 use Rattle.judging.specs.Laws.{LadderRange}
 use Rattle.trades.specs.declared.TradeReferences.{TradeReferences}
-use Rattle.trades.specs.Trades.{trade_judged}
+use Rattle.trades.specs.Trades.{any_trade_off, trade_judged}
 
 -- 3 and 4
 abbrev pub is_trade_refusal : ℕ → Bool
@@ -33,8 +34,18 @@ TradeRange =
     (t : Table) → T (well_formed t) → (percent : Percentage) (p : ℕ) (r : TradeReferences) →
     (T (is_trade_refusal (trade_judged (ladder t) percent p r).number) → ⊥) → FromTo t (trade_judged (ladder t) percent p r) p
 
+-- Where the previous close is a ladder price or missing, check 3 is one question put to all five references: is there one that is no ladder
+-- price?
+abbrev pub TradeCheckedAlike : Type 0
+TradeCheckedAlike =
+    (t : Table) → T (well_formed t) → (r : TradeReferences) → is_off (ladder t) r.previous_close ≡ false →
+    any_trade_off (ladder t) r ≡
+    (is_off (ladder t) r.previous_close || is_off (ladder t) r.lowest_bid || is_off (ladder t) r.lowest_ask ||
+    is_off (ladder t) r.highest_bid || is_off (ladder t) r.highest_ask)
+
 -- ---- all of them
 
 pub record TradeLaws : Type 0 where
   pub trade_numbers : TradeNumbers
   pub trade_range_lem : TradeRange
+  pub trade_checked_alike : TradeCheckedAlike

@@ -7,7 +7,7 @@ use Rattle.limits.specs.declared.Percentage.{Percentage}
 use Rattle.limits.specs.Limits.{lower_limit_found, upper_limit_found}
 use Rattle.questions.specs.declared.Reference.TheVariants.{Missing}
 use Rattle.questions.specs.Missing.{reference_of, least, greatest, price_or}
-use Rattle.questions.specs.Checks.{is_off, bad_pair}
+use Rattle.questions.specs.Checks.{is_off, lies_outside, bad_pair}
 use Rattle.ranges.specs.declared.Range.{Range}
 use Rattle.ranges.specs.declared.Refusal.TheVariants.{OffLadder, Disagreement}
 use Rattle.ranges.specs.Readings.{Reading}
@@ -31,10 +31,10 @@ trade_references_of close lowest_bid lowest_ask highest_bid highest_ask =
       highest_ask = reference_of highest_ask;
     }
 
--- The reference feed. 3: "a reference present but no ladder price"
+-- The reference feed. 3: "a reference present but no ladder price", or a previous close outside "the ladder's ends" (document 02, b)
 unfoldable pub any_trade_off : Prices → TradeReferences → Bool
 any_trade_off l r =
-    is_off l r.previous_close || is_off l r.lowest_bid || is_off l r.lowest_ask || is_off l r.highest_bid ||
+    lies_outside l r.previous_close || is_off l r.lowest_bid || is_off l r.lowest_ask || is_off l r.highest_bid ||
     is_off l r.highest_ask
 
 -- The reference feed. 4: "For trades: a lowest bid without a highest bid or the reverse, or lowest above highest, and the same for asks."

@@ -10,21 +10,18 @@ use questions::{Reference, checks};
 use ranges::{Range, Reading, Refusal, bounds};
 
 impl TradeReferences {
-    // Whether any of the five is present, but no ladder price.
+    // Whether one is bad: a bid or an ask that is no ladder price, or the previous close outside the ends.
     #[tactic(auto, unfolding(crate::specs::Trades::any_trade_off))]
     fn any_off(self, table: &SpreadTable) -> bool
         ensures { result ≡ any_trade_off (prices_of table.now) self }
     {
-        checks::any_off(
-            &[
-                self.previous_close,
-                self.lowest_bid,
-                self.lowest_ask,
-                self.highest_bid,
-                self.highest_ask,
-            ],
-            table,
-        )
+        let ladder_prices = [
+            self.lowest_bid,
+            self.lowest_ask,
+            self.highest_bid,
+            self.highest_ask,
+        ];
+        self.previous_close.lies_outside(table) | checks::any_off(&ladder_prices, table)
     }
 
     // Whether the bids or the asks disagree.

@@ -4,7 +4,6 @@ ghost use Rattle.ladder.specs.Layout.{prices_of};
 ghost use Rattle.trades.specs.Trades.{trade_verdict, trade_judged};
 
 use super::{TradeReferences, readings};
-use judging::verdicts::is_outside;
 use judging::{Answer, Verdict, answers};
 use ladder::table::SpreadTable;
 use limits::terms::Terms;
@@ -15,7 +14,7 @@ use ranges::Range;
 pub fn verdict_on(table: &SpreadTable, range: Range, price: u32) -> Verdict
     ensures { result ≡ trade_verdict (prices_of table.now) range price }
 {
-    if is_outside(table, price) {
+    if table.is_outside(price) {
         return Verdict::OutsideLadder;
     }
     if price < range.lowest {

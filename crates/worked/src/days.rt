@@ -37,9 +37,19 @@ fn limit(side: u8, price: u32, nominal: u32) -> Order
     }
 }
 
-// Until there is a bid or an ask, the previous close: Low(20.40) is 19.38, and under nine times it is 183.50.
+// Until there is a bid or an ask, the previous close: Low(20.05) is 19.05, and under nine times it is 180.40; for 20.40 they are 19.38 and
+// 183.50.
 pub(crate) fn opening(rt: &impl Print) -> io::Result<()> {
-    told(rt, "close 20.05", Day::fresh(Reference::Price(20050)), 12)?;
+    let none = Day::fresh(Reference::Price(9995001));
+    told(rt, "close 9,995.001", none, 12)?;
+    let old = told(rt, "close 20.05", Day::fresh(Reference::Price(20050)), 0)?;
+    order(
+        rt,
+        "opening, buy",
+        old,
+        limit(BUY, 20040, 0),
+        due(0, 19050, 180400),
+    )?;
     let day = told(rt, "close 20.40", Day::fresh(Reference::Price(20400)), 0)?;
     order(
         rt,

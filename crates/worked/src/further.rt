@@ -152,8 +152,8 @@ pub(crate) fn refused(rt: &impl Print) -> io::Result<()> {
     )?;
     reporting::order(
         rt,
-        "opening, nominal 0.251",
-        Order::new(BUY, LIMIT, OPENING).nominal(251),
+        "day low 0.251",
+        Order::new(BUY, LIMIT, OPENING).day(251, 255),
         1000,
         due(3, 0, 0),
     )?;

@@ -1,5 +1,6 @@
 // Worked prices: what the library finds for each line of document 01, "Prices worked out", for the examples of source document 004, for
-// the programs that would look finished, and for some lines more, compared with what is due. Each line ends with right or WRONG.
+// the programs that would look finished, for closes off the ladder, and for some lines more, compared with what is due. Each line ends with
+// right or WRONG.
 //
 // A line that cannot be written ends the program with that error, and nothing is written after it.
 #![tactic(auto)]
@@ -8,6 +9,7 @@ mod reporting; // reporting.rt: a line of output, right or WRONG
 mod paper; // paper.rt: lines A to P, and source document 004
 mod wrong_programs; // wrong_programs.rt: answers of wrong programs that must not come out
 mod further; // further.rt: lines beyond those of the paper
+mod old_closes; // old_closes.rt: closes and nominal prices off the ladder
 mod days; // days.rt: a day book, and orders that are filled from it
 
 use std::io;
@@ -30,6 +32,11 @@ fn main(rt: HostRuntime) -> io::Result<()> {
     further::nine_fold(&rt)?;
     further::refused(&rt)?;
     further::trades(&rt)?;
+    old_closes::steps(&rt)?;
+    old_closes::limits_of_closes(&rt)?;
+    old_closes::questions(&rt)?;
+    old_closes::refused(&rt)?;
+    old_closes::trades(&rt)?;
     days::opening(&rt)?;
     days::quotes(&rt)
 }

@@ -1,12 +1,16 @@
--- The ends of a rising list: no member is below the first, and none above the last.
+-- The ends of a rising list: no member is below the first, and none above the last. What lies within the ends.
+use mathlib.Core.Path.{◌≡◌}
+use mathlib.Core.Bool.{false}
 use Prim.Native.Nat.{ℕ, ◌≤◌, ◌<◌}
 use native.Mathlib.Nat.{le_of_lt}
 use native.Mathlib.Omega.{arith}
 use mathlib.Core.List.{List, [], ◌∷◌}
-use lib.Dec.{T}
+use lib.Dec.{T, ltb}
+use borrow.Author.Tests.{ltb-false, le-ltb}
+use Rattle.std.proofs.lemmas.Bool.{or_parts, true≢false}
 use Rattle.facts.specs.Lists.{holds, Rising}
 use Rattle.facts.proofs.Lists.{held_cases, held_first, held_rest, held_none}
-use Rattle.ladder.specs.Places.{first_price, last_after, last_price}
+use Rattle.ladder.specs.Places.{first_price, last_after, last_price, is_outside}
 
 pub over_first : (l : List ℕ) → Rising l → (x : ℕ) → T (holds x l) → first_price l ≤ x
 over_first [] r x h = held_none x h
@@ -30,3 +34,25 @@ unfolding last_after
 last_held [] x h = held_none x h
 last_held (a ∷ []) x h = held_first a []
 last_held (a ∷ b ∷ l) x h = held_rest a (b ∷ l) (last_after b l) (last_held (b ∷ l) b (held_first b l))
+
+-- ---- within the ends
+
+pub record Within (l : List ℕ) (p : ℕ) : Type 0 where
+  pub low : first_price l ≤ p
+  pub high : p ≤ last_price l
+
+pub within : (l : List ℕ) (p : ℕ) → is_outside p l ≡ false → Within l p
+unfolding is_outside
+within [] p e = absurd (true≢false e)
+within (a ∷ l) p e =
+    let r = or_parts (ltb p a) (ltb (last_price (a ∷ l)) p) e in
+    record { low = ltb-false p a r.0; high = ltb-false (last_price (a ∷ l)) p r.1 }
+
+-- x is a member
+pub not_outside : (l : List ℕ) (x p : ℕ) → T (holds x l) → Within l p → is_outside p l ≡ false
+unfolding is_outside
+not_outside [] x p h w = held_none x h
+not_outside (a ∷ l) x p h w = rw (le-ltb p a w.low, le-ltb (last_price (a ∷ l)) p w.high)
+
+pub held_within : (l : List ℕ) → Rising l → (p : ℕ) → T (holds p l) → is_outside p l ≡ false
+held_within l r p h = not_outside l p p h (record { low = over_first l r p h; high = under_last l r p h })

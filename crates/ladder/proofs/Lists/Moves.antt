@@ -2,7 +2,7 @@
 use Rattle.std.specs.Prelude.{Some, None}
 use mathlib.Core.Path.{◌≡◌, ap}
 use Prim.Native.Nat.{ℕ, zero, suc, ◌+◌, ◌*◌, ◌≤◌, ◌<◌}
-use native.Mathlib.Nat.{zero-add, suc-add, mul-le-mul_left}
+use native.Mathlib.Nat.{zero-add, suc-add, le_refl, mul-le-mul_left}
 use native.Mathlib.Decide.{dec_le}
 use native.Mathlib.Omega.{arith}
 use mathlib.Core.List.{List}
@@ -64,19 +64,26 @@ module _ (l : List ℕ) (r : Rising l) (x : ℕ) (on : T (holds x l)) (scale y :
 -- ---- single spreads
 
 module _ (l : List ℕ) (r : Rising l) (p q : ℕ) (n : Next l p q) where
-  pub spread_up_lem : spread_up l p ≡ q
+  -- from a price x between two neighbours, or on the one behind, a spread leads to the one ahead
+  pub up_between : (x : ℕ) → p ≤ x → x < q → spread_up l x ≡ q
   unfolding spread_up
-  spread_up_lem =
-      ap (or_else p)
-      (first_is l r (above p) q
-      (record { on = n.upper; passes = lt→ltb p q n.rises; extreme = λ x h t. n.gap x h (ltb→lt p x t) }))
+  up_between x low high =
+      ap (or_else x)
+      (first_is l r (above x) q
+      (record { on = n.upper; passes = lt→ltb x q high; extreme = λ y h t. n.gap y h (omega (arith, ltb→lt x y t)) }))
+
+  pub down_between : (x : ℕ) → p < x → x ≤ q → spread_down l x ≡ p
+  unfolding spread_down
+  down_between x low high =
+      ap (or_else x)
+      (latest_is l r (below x) p
+      (record { on = n.lower; passes = lt→ltb p x low; extreme = λ y h t. gap_down l p q n y h (omega (arith, ltb→lt y x t)) }))
+
+  pub spread_up_lem : spread_up l p ≡ q
+  spread_up_lem = up_between p (le_refl p) n.rises
 
   pub spread_down_lem : spread_down l q ≡ p
-  unfolding spread_down
-  spread_down_lem =
-      ap (or_else q)
-      (latest_is l r (below q) p
-      (record { on = n.lower; passes = lt→ltb p q n.rises; extreme = λ x h t. gap_down l p q n x h (ltb→lt x q t) }))
+  spread_down_lem = down_between q n.rises (le_refl q)
 
 -- at the ends single spreads stay
 pub up_stays : (l : List ℕ) → Rising l → spread_up l (last_price l) ≡ last_price l

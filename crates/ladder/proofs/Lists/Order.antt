@@ -1,18 +1,22 @@
 -- Spreads and rounding keep order, on any rising list.
 use Rattle.std.specs.Prelude.{Option, Some, None}
+use mathlib.Core.Path.{◌≡◌}
 use Prim.Native.Nat.{ℕ, zero, suc, ◌*◌, ◌≤◌, ◌<◌}
-use native.Mathlib.Nat.{le_refl, le_trans, le_of_lt, eq-or-lt_of_le}
+use native.Mathlib.Nat.{le_refl, le_trans, le_of_lt, lt_of_le_of_lt, lt_of_lt_of_le, le_antisymm}
+use native.Mathlib.Omega.{arith}
 use mathlib.Core.Bool.{Bool}
-use mathlib.Core.Logic.{⊎_elim}
 use mathlib.Core.List.{List}
 use lib.Dec.{T, ltb→lt, lt→ltb, leb→le, le→leb}
 use Rattle.facts.specs.Lists.{holds, Rising}
 use Rattle.ladder.specs.Search.{first, latest, or_else, above, below, at_least, at_most}
 use Rattle.ladder.specs.Places.{first_price, last_price}
 use Rattle.ladder.specs.Spreads.{spread_up, spread_down, times}
-use Rattle.ladder.proofs.Lists.Ends.{over_first, under_last}
+use Rattle.ladder.proofs.Lists.Ends.{over_first, under_last, first_held, last_held, Within}
 use Rattle.ladder.specs.Laws.{Least, Greatest}
 use Rattle.ladder.proofs.Lists.Extremes.{Best, NonePass, FoundIs, first_result, latest_result}
+
+not_less : {m n : ℕ} → (m < n → ⊥) → n ≤ m
+not_less h = omega arith
 
 -- what is shown of all that a search may find, and of what stands in where it finds nothing, holds of the outcome
 found : (R : ℕ → ℕ → Type 0) (test : ℕ → Bool) (l : List ℕ) (other : ℕ) (P : ℕ → Type 0) (f : Option ℕ) → FoundIs R test l f →
@@ -31,39 +35,59 @@ module _ (l : List ℕ) (r : Rising l) (p : ℕ) (P : ℕ → Type 0) where
   unfolding spread_down
   down_by = found Greatest (below p) l p P (latest (below p) l) (latest_result (below p) l r)
 
--- they stay on the list
-pub up_on : (l : List ℕ) → Rising l → (p : ℕ) → T (holds p l) → T (holds (spread_up l p) l)
-up_on l r p h = up_by l r p (λ q. T (holds q l)) (λ q b. b.on) (λ n. h)
+module _ (l : List ℕ) (r : Rising l) where
+  -- they lead up, and down
+  pub up_leads : (p : ℕ) → p ≤ spread_up l p
+  up_leads p = up_by l r p (λ q. p ≤ q) (λ q b. le_of_lt (ltb→lt p q b.passes)) (λ n. le_refl p)
 
-pub down_on : (l : List ℕ) → Rising l → (p : ℕ) → T (holds p l) → T (holds (spread_down l p) l)
-down_on l r p h = down_by l r p (λ q. T (holds q l)) (λ q b. b.on) (λ n. h)
+  pub down_leads : (p : ℕ) → spread_down l p ≤ p
+  down_leads p = down_by l r p (λ q. q ≤ p) (λ q b. le_of_lt (ltb→lt q p b.passes)) (λ n. le_refl p)
 
--- and keep order
-up_order : (l : List ℕ) → Rising l → (p q : ℕ) → T (holds p l) → T (holds q l) → p ≤ q → spread_up l p ≤ spread_up l q
-up_order l r p q h k m = ⊎_elim (λ e. rw e (le_refl (spread_up l q))) (λ less. le_trans (under less) over) (eq-or-lt_of_le m)
-  where
-    under : p < q → spread_up l p ≤ q
-    under less = up_by l r p (λ x. x ≤ q) (λ x b. b.extreme q k (lt→ltb p q less)) (λ n. m)
+  -- from a member they stay on the list
+  pub up_on : (p : ℕ) → T (holds p l) → T (holds (spread_up l p) l)
+  up_on p h = up_by l r p (λ q. T (holds q l)) (λ q b. b.on) (λ n. h)
 
-    over : q ≤ spread_up l q
-    over = up_by l r q (λ x. q ≤ x) (λ x b. le_of_lt (ltb→lt q x b.passes)) (λ n. le_refl q)
+  pub down_on : (p : ℕ) → T (holds p l) → T (holds (spread_down l p) l)
+  down_on p h = down_by l r p (λ q. T (holds q l)) (λ q b. b.on) (λ n. h)
 
-down_order : (l : List ℕ) → Rising l → (p q : ℕ) → T (holds p l) → T (holds q l) → p ≤ q → spread_down l p ≤ spread_down l q
-down_order l r p q h k m = ⊎_elim (λ e. rw e (le_refl (spread_down l q))) (λ less. le_trans under (over less)) (eq-or-lt_of_le m)
-  where
-    under : spread_down l p ≤ p
-    under = down_by l r p (λ x. x ≤ p) (λ x b. le_of_lt (ltb→lt x p b.passes)) (λ n. le_refl p)
+  -- from any price within the ends of a list that has a member x they end on it: where nothing is ahead, the price is the end itself
+  module _ (x : ℕ) (on : T (holds x l)) (p : ℕ) (w : Within l p) where
+    pub up_lands : T (holds (spread_up l p) l)
+    up_lands = up_by l r p (λ q. T (holds q l)) (λ q b. b.on) stays
+      where
+        stays : NonePass (above p) l → T (holds p l)
+        stays none =
+            let end : p ≡ last_price l = le_antisymm w.high (not_less (λ m. none _ (last_held l x on) (lt→ltb p (last_price l) m))) in
+            rw end (last_held l x on)
 
-    over : p < q → p ≤ spread_down l q
-    over less = down_by l r q (λ x. p ≤ x) (λ x b. b.extreme p h (lt→ltb p q less)) (λ n. m)
+    pub down_lands : T (holds (spread_down l p) l)
+    down_lands = down_by l r p (λ q. T (holds q l)) (λ q b. b.on) stays
+      where
+        stays : NonePass (below p) l → T (holds p l)
+        stays none =
+            let end : p ≡ first_price l = le_antisymm (not_less (λ m. none _ (first_held l x on) (lt→ltb (first_price l) p m))) w.low in
+            rw end (first_held l x on)
+
+  -- and they keep order: what lies ahead of the price further on lies ahead of the other one too
+  up_order : (p q : ℕ) → p ≤ q → spread_up l p ≤ spread_up l q
+  up_order p q m =
+      up_by l r q (λ x. spread_up l p ≤ x)
+      (λ x b. up_by l r p (λ y. y ≤ x) (λ y a. a.extreme x b.on (lt→ltb p x (lt_of_le_of_lt m (ltb→lt q x b.passes)))) (λ n. le_trans m (le_of_lt (ltb→lt q x b.passes))))
+      (λ none. up_by l r p (λ y. y ≤ q) (λ y a. not_less (λ u. none y a.on (lt→ltb q y u))) (λ n. m))
+
+  down_order : (p q : ℕ) → p ≤ q → spread_down l p ≤ spread_down l q
+  down_order p q m =
+      down_by l r p (λ x. x ≤ spread_down l q)
+      (λ x b. down_by l r q (λ y. x ≤ y) (λ y a. a.extreme x b.on (lt→ltb x q (lt_of_lt_of_le (ltb→lt x p b.passes) m))) (λ n. le_trans (le_of_lt (ltb→lt x p b.passes)) m))
+      (λ none. down_by l r q (λ y. p ≤ y) (λ y a. not_less (λ u. none y a.on (lt→ltb y p u))) (λ n. m))
 
 -- ---- n spreads
 
-pub times_on : (l : List ℕ) (step : ℕ → ℕ) → ((p : ℕ) → T (holds p l) → T (holds (step p) l)) → (n p : ℕ) → T (holds p l) →
-    T (holds (times n step p) l)
+-- n steps keep what each step keeps
+pub times_keep : (P : ℕ → Type 0) (step : ℕ → ℕ) → ((p : ℕ) → P p → P (step p)) → (n p : ℕ) → P p → P (times n step p)
 unfolding times
-times_on l step on zero p h = h
-times_on l step on (suc n) p h = times_on l step on n (step p) (on p h)
+times_keep P step keeps zero p h = h
+times_keep P step keeps (suc n) p h = times_keep P step keeps n (step p) (keeps p h)
 
 -- n steps lead where each step leads, as long as R goes on
 pub times_lead : (R : ℕ → ℕ → Type 0) → ((p : ℕ) → R p p) → ((p q s : ℕ) → R p q → R q s → R p s) → (step : ℕ → ℕ) →
@@ -72,20 +96,16 @@ unfolding times
 times_lead R here on step leads zero p = here p
 times_lead R here on step leads (suc n) p = on p (step p) (times n step (step p)) (leads p) (times_lead R here on step leads n (step p))
 
-times_order : (l : List ℕ) (step : ℕ → ℕ) → ((p : ℕ) → T (holds p l) → T (holds (step p) l)) →
-    ((p q : ℕ) → T (holds p l) → T (holds q l) → p ≤ q → step p ≤ step q) →
-    (n p q : ℕ) → T (holds p l) → T (holds q l) → p ≤ q → times n step p ≤ times n step q
+times_order : (step : ℕ → ℕ) → ((p q : ℕ) → p ≤ q → step p ≤ step q) → (n p q : ℕ) → p ≤ q → times n step p ≤ times n step q
 unfolding times
-times_order l step on order zero p q h k m = m
-times_order l step on order (suc n) p q h k m = times_order l step on order n (step p) (step q) (on p h) (on q k) (order p q h k m)
+times_order step order zero p q m = m
+times_order step order (suc n) p q m = times_order step order n (step p) (step q) (order p q m)
 
-pub spreads_up_order : (l : List ℕ) → Rising l → (n p q : ℕ) → T (holds p l) → T (holds q l) → p ≤ q →
-    times n (spread_up l) p ≤ times n (spread_up l) q
-spreads_up_order l r = times_order l (spread_up l) (up_on l r) (up_order l r)
+pub spreads_up_order : (l : List ℕ) → Rising l → (n p q : ℕ) → p ≤ q → times n (spread_up l) p ≤ times n (spread_up l) q
+spreads_up_order l r = times_order (spread_up l) (up_order l r)
 
-pub spreads_down_order : (l : List ℕ) → Rising l → (n p q : ℕ) → T (holds p l) → T (holds q l) → p ≤ q →
-    times n (spread_down l) p ≤ times n (spread_down l) q
-spreads_down_order l r = times_order l (spread_down l) (down_on l r) (down_order l r)
+pub spreads_down_order : (l : List ℕ) → Rising l → (n p q : ℕ) → p ≤ q → times n (spread_down l) p ≤ times n (spread_down l) q
+spreads_down_order l r = times_order (spread_down l) (down_order l r)
 
 -- ---- rounding: a test that passes more finds something as extreme, where `end` stands in for nothing
 

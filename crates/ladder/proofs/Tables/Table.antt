@@ -4,6 +4,7 @@ use mathlib.Core.Path.{◌≡◌, refl}
 use Prim.Native.Nat.{ℕ, suc, ◌+◌, ◌-◌, ◌*◌, ◌/◌, ◌%◌, ◌≤◌, ◌<◌}
 use native.Mathlib.Nat.{add-suc, div-add-mod', le_of_mul-le-mul_right}
 use native.Mathlib.Omega.{arith}
+use mathlib.Core.Bool.{◌||◌}
 use mathlib.Core.List.{List, [], ◌∷◌}
 use lib.Dec.{T, ltb, ltb→lt}
 use lib.ListN.{length}
@@ -12,7 +13,7 @@ use Rattle.ladder.specs.Bands.{chained, well_formed}
 use Rattle.ladder.specs.Ladder.{width, band_prices, ladder}
 use Rattle.facts.specs.Lists.{holds, Rising}
 use Rattle.ladder.specs.Arithmetic.{StandsIn, places_below}
-use Rattle.ladder.specs.Places.{price_at, last_after, first_price, last_price}
+use Rattle.ladder.specs.Places.{price_at, last_after, first_price, last_price, is_outside}
 use Rattle.facts.proofs.Tests.{and_left, and_right}
 use Rattle.facts.proofs.Lists.{held_first, Next}
 use Rattle.ladder.proofs.Lists.Entries.{next_at, entry_held}
@@ -74,6 +75,11 @@ module _ (t : List Band) (wf : T (well_formed t)) where
   pub last_listed : last_price (ladder t) ≡ last_after (start t) (band_prices t)
   unfolding last_after
   last_listed = rw (table_facts t wf).list
+
+  -- outside it is what is below the first or above the last
+  pub outside_is : (p : ℕ) → is_outside p (ladder t) ≡ (ltb p (first_price (ladder t)) || ltb (last_price (ladder t)) p)
+  unfolding is_outside
+  outside_is p = rw (table_facts t wf).list
 
   pub start_held : T (holds (start t) (ladder t))
   start_held = rw (table_facts t wf).list (held_first (start t) (band_prices t))

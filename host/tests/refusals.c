@@ -1,0 +1,175 @@
+/*
+ * Which references get 3: any that lies outside the ends of the ladder, and
+ * any but the previous close and the nominal that lies between its prices.
+ */
+#include <stdbool.h>
+
+#include "draw.h"
+#include "report.h"
+#include "tests.h"
+
+enum { DRAWN = 1000000, REFERENCES = 8, CLOSE = 4, NOMINAL = 7 };
+
+/* May this reference of a question lie between ladder prices? */
+static bool is_loose(uint32_t k)
+{
+    return k == CLOSE || k == NOMINAL;
+}
+
+/* ---- one reference ---------------------------------------------------- */
+
+static const struct {
+    uint32_t price;
+    bool within, on_ladder;
+} tried[] = {
+    {1, false, false}, {9, false, false}, {10, true, true},
+    {250, true, true}, {251, true, false}, {254, true, false},
+    {255, true, true}, {20000, true, true}, {20050, true, false},
+    {20060, true, true}, {9990000, true, true}, {9994999, true, false},
+    {9995000, true, true}, {9995001, false, false}, {10000000, false, false},
+    {UINT32_MAX, false, false},
+};
+
+static void same_number(const uint8_t question[40], bool refused)
+{
+    struct hendovita_answer found = hendovita_judge_question(question, 40);
+    struct plain_answer due = plain_question(question);
+    report_question("alone", question, found, due);
+    if ((found.number == 3) != refused)
+        report_say("  found %u where 3 is %s", found.number,
+                   refused ? "due" : "not due");
+}
+
+/* Every known code, with one reference and no other. 3 comes before 4, so it
+ * does not matter that others are missing. */
+static void every_code(uint32_t reference, uint32_t price, bool refused)
+{
+    uint8_t question[40] = {0};
+    hendovita_put_number(question + 4, 20000);
+    hendovita_put_number(question + 8 + 4 * reference, price);
+    for (uint8_t side = 1; side <= 2; side++)
+        for (uint8_t type = 1; type <= 3; type++)
+            for (uint8_t queue = 1; queue <= 5; queue++) {
+                question[0] = side;
+                question[1] = type;
+                question[2] = queue;
+                same_number(question, refused);
+            }
+}
+
+static void test_questions(void)
+{
+    report_begin("each reference of a question on the ladder, between, past");
+    for (size_t i = 0; i < sizeof tried / sizeof *tried; i++)
+        for (uint32_t k = 0; k < REFERENCES; k++) {
+            bool good = is_loose(k) ? tried[i].within : tried[i].on_ladder;
+            every_code(k, tried[i].price, !good);
+        }
+}
+
+static void test_trades(void)
+{
+    report_begin("each reference of a trade on the ladder, between, past");
+    for (size_t i = 0; i < sizeof tried / sizeof *tried; i++)
+        for (uint32_t k = 1; k < 6; k++) {
+            uint32_t f[6] = {20000};
+            f[k] = tried[i].price;
+            struct hendovita_answer found =
+                hendovita_judge_trade(f[0], f[1], f[2], f[3], f[4], f[5]);
+            bool good = k == 1 ? tried[i].within : tried[i].on_ladder;
+            report_trade(f, found,
+                         plain_trade(f[0], f[1], f[2], f[3], f[4], f[5]));
+            if ((found.number == 3) == good)
+                report_say("  found %u where 3 is %s", found.number,
+                           good ? "not due" : "due");
+        }
+}
+
+/* ---- drawn questions -------------------------------------------------- */
+
+static uint32_t reference_of(const uint8_t question[40], uint32_t k)
+{
+    return hendovita_get_number(question + 8 + 4 * k);
+}
+
+static bool is_outside(uint32_t reference)
+{
+    return reference != 0 && (reference < 10 || reference > 9995000);
+}
+
+static bool is_off_ladder(uint32_t reference)
+{
+    return reference != 0 && plain_place(reference) < 0;
+}
+
+/* Is there a reference off the ladder? */
+static bool is_any_off(const uint8_t question[40])
+{
+    for (uint32_t k = 0; k < REFERENCES; k++)
+        if (is_off_ladder(reference_of(question, k)))
+            return true;
+    return false;
+}
+
+/* Is there one that gets 3? */
+static bool is_any_bad(const uint8_t question[40])
+{
+    for (uint32_t k = 0; k < REFERENCES; k++) {
+        uint32_t reference = reference_of(question, k);
+        if (is_loose(k) ? is_outside(reference) : is_off_ladder(reference))
+            return true;
+    }
+    return false;
+}
+
+/* The answer by a stricter rule, by which every reference must be a ladder
+ * price. */
+static struct plain_answer strict_answer(const uint8_t question[40])
+{
+    struct plain_answer answer = plain_question(question);
+    if (answer.number != 2 && is_any_off(question))
+        return (struct plain_answer){3, 0, 0};
+    return answer;
+}
+
+enum outcome { SAME, SAME_3, LATER, OUTCOMES };
+
+/* How the answer differs from the one by the stricter rule: not at all, unless
+ * that one is 3 for a close or a nominal between ladder prices and for nothing
+ * else; then it is a later number, or 0. */
+static enum outcome compare(const uint8_t question[40])
+{
+    struct hendovita_answer found = hendovita_judge_question(question, 40);
+    struct plain_answer strict = strict_answer(question);
+    if (strict.number == 3 && !is_any_bad(question)) {
+        if (found.number >= 1 && found.number <= 3)
+            report_say("  found %u for a close or nominal between prices",
+                       found.number);
+        return LATER;
+    }
+    report_question("by the stricter rule", question, found, strict);
+    return strict.number == 3 ? SAME_3 : SAME;
+}
+
+static void test_drawn(void)
+{
+    uint32_t counts[OUTCOMES] = {0};
+    struct draw draw;
+    report_begin("1,000,000 drawn questions against a stricter rule");
+    draw_begin(&draw, 9);
+    for (uint32_t i = 0; i < DRAWN; i++) {
+        uint8_t question[40];
+        draw_question(&draw, question);
+        counts[compare(question)]++;
+    }
+    for (int i = 0; i < OUTCOMES; i++)
+        if (counts[i] < 50000)
+            report_say("  only %u of outcome %d", counts[i], i);
+}
+
+void test_refusals(void)
+{
+    test_questions();
+    test_trades();
+    test_drawn();
+}
