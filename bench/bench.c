@@ -1,7 +1,8 @@
 /*
  * Speed: the library's batch against a plain C judge written for speed, on the
  * same questions, turn by turn in one run, of each the best round; and the day
- * book and the program likewise.
+ * book and the program likewise. Batches that name a table are timed beside
+ * those that name none.
  */
 #define _POSIX_C_SOURCE 199309L
 #include <stdio.h>
@@ -16,7 +17,7 @@
 #include "programs.h"
 #include "quick.h"
 
-enum { QUESTIONS = 100000, ROUNDS = 15 };
+enum { QUESTIONS = 100000, ROUNDS = 15, MOST = 1000 };
 
 static uint8_t questions[QUESTIONS * 40];
 static uint8_t answers[2][QUESTIONS * 12];
@@ -105,6 +106,58 @@ static void run(const char *name,
     }
 }
 
+/* Seconds for all questions in batches of the most that one may have, on the
+ * table that a number names; with 0 by the call that names none. */
+static double time_table(uint32_t table)
+{
+    size_t judged = 0;
+    double begin = now();
+    for (size_t k = 0; k < QUESTIONS; k += MOST) {
+        const uint8_t *asked = questions + 40 * k;
+        uint8_t *room = answers[0] + 12 * k;
+        judged += table == 0
+            ? hendovita_judge_batch(asked, 40 * MOST, room, 12 * MOST).count
+            : hendovita_judge_batch_on(table, asked, 40 * MOST, room,
+                                       12 * MOST).count;
+    }
+    double seconds = now() - begin;
+    all_judged(judged);
+    return seconds;
+}
+
+/* The best time for a mix that is drawn on that table, ns a question. */
+static double best_on(uint32_t table,
+                      void (*mix)(struct draw *, uint8_t question[40]))
+{
+    double best = 1e9;
+    struct draw draw;
+    draw_begin(&draw, 5);
+    plain_use(table == 0 ? PLAIN_PHASE_1 : table);
+    for (size_t k = 0; k < QUESTIONS; k++)
+        mix(&draw, questions + 40 * k);
+    plain_use(PLAIN_PHASE_1);
+    for (int round = 0; round < ROUNDS; round++) {
+        double seconds = time_table(table);
+        best = seconds < best ? seconds : best;
+    }
+    return best / QUESTIONS * 1e9;
+}
+
+static void run_tables(void)
+{
+    printf("batches of 1,000 on each table, ns a question\n"
+           "      table  usual random\n");
+    for (uint32_t table = 0; table <= PLAIN_TABLES; table++) {
+        double usual = best_on(table, mix_usual);
+        double random = best_on(table, mix_random);
+        if (table == 0)
+            printf("       none");
+        else
+            printf("%11u", (unsigned)table);
+        printf(" %6.0f %6.0f\n", usual, random);
+    }
+}
+
 static void run_days(void)
 {
     static const char head[] = "                library      plain C   ratio\n"
@@ -124,6 +177,7 @@ int main(void)
     plain_begin();
     run("usual orders over 0.50 to 50", mix_usual);
     run("random over the whole ladder, a fifth damaged", mix_random);
+    run_tables();
     run_days();
     printf("the program, from a file of questions to lines\n"
            "             pricecheck      plain C   ratio\n"

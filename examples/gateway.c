@@ -1,8 +1,10 @@
 /*
  * A small order gateway: it fills questions by name, hands them over as one
- * batch, and prints each verdict in words.
+ * batch, and prints each verdict in words. Its argument is the number of the
+ * spread table, 1 to 3; without one it is that of Phase 1.
  */
 #include <stdio.h>
+#include <string.h>
 
 #include "hendovita.h"
 
@@ -51,7 +53,17 @@ static void print_verdict(const struct hendovita_question *order,
     printf("\n");
 }
 
-int main(void)
+/* The number of the table: one digit, or nothing. 0 names none. */
+static uint32_t table_of(int argc, char **argv)
+{
+    if (argc < 2)
+        return HENDOVITA_PHASE_1;
+    if (argc > 2 || strlen(argv[1]) != 1)
+        return 0;
+    return (uint32_t)(argv[1][0] - '0');
+}
+
+int main(int argc, char **argv)
 {
     uint8_t questions[ORDERS * HENDOVITA_QUESTION_BYTES];
     uint8_t answers[ORDERS * HENDOVITA_ANSWER_BYTES];
@@ -60,8 +72,9 @@ int main(void)
         hendovita_put_question(questions + k * HENDOVITA_QUESTION_BYTES,
                                &orders[k]);
 
-    struct hendovita_outcome outcome = hendovita_judge_batch(
-        questions, sizeof questions, answers, sizeof answers);
+    struct hendovita_outcome outcome = hendovita_judge_batch_on(
+        table_of(argc, argv), questions, sizeof questions, answers,
+        sizeof answers);
     if (outcome.number != HENDOVITA_ACCEPTED) {
         fprintf(stderr, "batch refused: %s\n", hendovita_text(outcome.number));
         return 1;

@@ -12,18 +12,19 @@
  * No function keeps a state or allocates memory. All may be called from
  * several threads at once.
  *
- * A price is a whole number of mils (0.001 of the currency unit). The spread
- * table is that of Phase 1, the percentage is 5. That is right for all
- * securities but exchange traded products, exchange traded options, structured
- * products and debt, in the Continuous Trading Session.
+ * A price is a whole number of mils (0.001 of the currency unit). The
+ * percentage is 5, and the spread table that of Phase 1, or the one that a call
+ * names. That is right for all securities but exchange traded products,
+ * exchange traded options, structured products and debt, in the Continuous
+ * Trading Session.
  *
  * What stays with the caller, as everywhere in C:
  *   - a pointer has as many bytes behind it as the length beside it says;
  *     NULL goes with length 0 only, and is then no fault;
  *   - the question bytes and the answer buffer of a batch do not overlap.
  *
- * Calls that name a table by number will end in _on, those that name a table
- * and a rate in _at, those that are given a table of one's own in _own. They
+ * Calls that name a table by number end in _on. Those that name a table and a
+ * rate will end in _at, those that are given a table of one's own in _own. They
  * come beside the calls below, which keep their names and signatures. A later
  * version that puts a security code into the question changes the record
  * itself: its size, and struct hendovita_question.
@@ -54,16 +55,36 @@ enum {
     HENDOVITA_MOST_QUESTIONS = 1000 /* in a batch */
 };
 
+/* ---- spread tables --------------------------------------------------- */
+
+/*
+ * The tables that a call whose name ends in _on may name, and any other number
+ * names none. All three go from 0.010 to 9,995.000, over the same bands; two
+ * neighbours differ in the spreads that are named here.
+ *
+ * A call that names none uses that of Phase 1.
+ */
+enum hendovita_table {
+    HENDOVITA_BEFORE_PHASE_1 = 1, /* 10,340 prices: 0.020 over 10 to 20, 0.050
+                                   * over 20 to 50 */
+    HENDOVITA_PHASE_1 = 2, /* 11,740 prices: 0.010 over 10 to 20, 0.020 over 20
+                            * to 50 */
+    HENDOVITA_PHASE_2 = 3  /* 12,690 prices: 0.005 over 0.50 to 10, where it is
+                            * 0.010 before */
+};
+
 /* ---- answer numbers, by who can cause them -------------------------- */
 
-/* The checks run in the order of their numbers, and the first that applies
- * gives the number. Each call below says which numbers it returns. */
+/* The checks run in the order of their numbers, with 14 after 1 and before 2,
+ * and the first that applies gives the number. Each call below says which
+ * numbers it returns. */
 enum hendovita_number {
     HENDOVITA_ACCEPTED = 0,
 
     /* the calling program */
-    HENDOVITA_BAD_LENGTH = 1,   /* see each call */
-    HENDOVITA_UNKNOWN_CODE = 2, /* side, order type, queue code or byte 3 */
+    HENDOVITA_BAD_LENGTH = 1,     /* see each call */
+    HENDOVITA_UNKNOWN_TABLE = 14, /* a table number that is not 1 to 3 */
+    HENDOVITA_UNKNOWN_CODE = 2,   /* side, order type, queue code or byte 3 */
 
     /* the reference feed */
     HENDOVITA_REFERENCE_OFF_LADDER = 3, /* present, and no ladder price; of
@@ -97,6 +118,8 @@ static inline const char *hendovita_text(uint32_t number)
         return "accepted";
     case HENDOVITA_BAD_LENGTH:
         return "question bytes or answer buffer of a wrong length";
+    case HENDOVITA_UNKNOWN_TABLE:
+        return "table number not 1 to 3";
     case HENDOVITA_UNKNOWN_CODE:
         return "side, order type or queue code unknown, or byte 3 not zero";
     case HENDOVITA_REFERENCE_OFF_LADDER:
@@ -204,10 +227,10 @@ static inline void hendovita_put_question(uint8_t *bytes,
 /* ---- answers -------------------------------------------------------- */
 
 /*
- * An answer: an answer number, and the range that is shown. 1 to 5 show 0 and
- * 0. 0 and 6 to 10 show a range: to a question, the lowest and the highest
- * ladder price that are permitted and pass the nine-fold rule, or 0 and 0
- * where there is none; to a trade, the permitted range.
+ * An answer: an answer number, and the range that is shown. 1 to 5 and 14 show
+ * 0 and 0. 0 and 6 to 10 show a range: to a question, the lowest and the
+ * highest ladder price that are permitted and pass the nine-fold rule, or 0 and
+ * 0 where there is none; to a trade, the permitted range.
  *
  * In an answer buffer it is 12 bytes, these three numbers of 4 bytes each, the
  * lowest first.
@@ -228,7 +251,7 @@ static inline struct hendovita_answer hendovita_get_answer(const uint8_t *bytes)
 
 /* ---- judging -------------------------------------------------------- */
 
-/* The outcome of a batch: 0 and how many questions, or 1 and 0. */
+/* The outcome of a batch: 0 and how many questions, or 1 or 14, and 0. */
 struct hendovita_outcome {
     uint32_t number, count;
 };
@@ -254,6 +277,21 @@ struct hendovita_outcome hendovita_judge_batch(const uint8_t *questions,
                                                size_t answers_len);
 
 /*
+ * The same on the table that a number names, one for all questions of the
+ * batch: each answer is what hendovita_judge_question_on returns for it. There
+ * is one number more, where 1 does not apply; an empty batch gets it too:
+ *
+ * 14 (HENDOVITA_UNKNOWN_TABLE): the number names no table. Nothing is judged:
+ * count is 0, and no byte of answers is changed.
+ */
+HENDOVITA_CHECK_RESULT
+struct hendovita_outcome hendovita_judge_batch_on(uint32_t table,
+                                                  const uint8_t *questions,
+                                                  size_t questions_len,
+                                                  uint8_t *answers,
+                                                  size_t answers_len);
+
+/*
  * The answer to one question.
  *
  * 1 (HENDOVITA_BAD_LENGTH) with 0 and 0: len is not 40. With len 40, 0 and 2
@@ -262,6 +300,13 @@ struct hendovita_outcome hendovita_judge_batch(const uint8_t *questions,
 HENDOVITA_CHECK_RESULT
 struct hendovita_answer hendovita_judge_question(const uint8_t *question,
                                                  size_t len);
+
+/* The same on the table that a number names. With len 40, and a number that
+ * names none: 14 (HENDOVITA_UNKNOWN_TABLE) with 0 and 0. */
+HENDOVITA_CHECK_RESULT
+struct hendovita_answer hendovita_judge_question_on(uint32_t table,
+                                                    const uint8_t *question,
+                                                    size_t len);
 
 /*
  * The answer to an off-System trade, given the previous close and the lowest
@@ -285,7 +330,20 @@ struct hendovita_answer hendovita_judge_trade(uint32_t price,
                                               uint32_t highest_bid,
                                               uint32_t highest_ask);
 
+/* The same on the table that a number names. By a number that names none: 14
+ * (HENDOVITA_UNKNOWN_TABLE) with 0 and 0. */
+HENDOVITA_CHECK_RESULT
+struct hendovita_answer hendovita_judge_trade_on(uint32_t table,
+                                                 uint32_t price,
+                                                 uint32_t previous_close,
+                                                 uint32_t lowest_bid,
+                                                 uint32_t lowest_ask,
+                                                 uint32_t highest_bid,
+                                                 uint32_t highest_ask);
+
 /* ---- the day book ---------------------------------------------------- */
+
+/* Its ladder is that of Phase 1. */
 
 /* What can happen to a security. With 1, 2 and 5 goes a price; with 3 and 4
  * the price is 0. */
@@ -361,10 +419,10 @@ struct hendovita_entered hendovita_enter_event(struct hendovita_day day,
  * 0: all 40 bytes are written. 1 (HENDOVITA_BAD_LENGTH): question_len is not
  * 40, and no byte is changed.
  *
- * Whatever side, order type, price and nominal are given: a question from a
- * day that hendovita_open_day and then hendovita_enter_event have returned
- * never gets 4, and gets 3 only where the nominal given is neither 0 nor a
- * price from 0.010 to 9,995.000.
+ * Whatever side, order type, price and nominal are given: judged on the table
+ * of Phase 1, a question from a day that hendovita_open_day and then
+ * hendovita_enter_event have returned never gets 4, and gets 3 only where the
+ * nominal given is neither 0 nor a price from 0.010 to 9,995.000.
  */
 HENDOVITA_CHECK_RESULT
 uint32_t hendovita_fill_question(struct hendovita_day day, uint8_t side,
@@ -385,6 +443,11 @@ struct hendovita_place {
     uint32_t found, place;
 };
 
+/* Each call comes twice. That which ends in _on takes the number of a table
+ * first and finds on that table what the other finds on its own; by a number
+ * that names no table it finds none. What is said below of none is said of the
+ * tables that there are. */
+
 /* The price n spreads up or down, any n, halting at the ends of the ladder;
  * with n = 0 the price itself. From a price between two ladder prices the
  * first spread goes to the nearest one that way, and is one of the n. None from
@@ -393,15 +456,25 @@ HENDOVITA_CHECK_RESULT
 struct hendovita_price hendovita_up(uint32_t price, uint64_t n);
 HENDOVITA_CHECK_RESULT
 struct hendovita_price hendovita_down(uint32_t price, uint64_t n);
+HENDOVITA_CHECK_RESULT
+struct hendovita_price hendovita_up_on(uint32_t table, uint32_t price,
+                                       uint64_t n);
+HENDOVITA_CHECK_RESULT
+struct hendovita_price hendovita_down_on(uint32_t table, uint32_t price,
+                                         uint64_t n);
 
-/* The price at a place, 0 (0.010) to 11,739 (9,995.000). None above, and only
- * there. */
+/* The price at a place, 0 (0.010) to 11,739 (9,995.000); on table 1 to 10,339,
+ * on table 3 to 12,689. None above, and only there. */
 HENDOVITA_CHECK_RESULT
 struct hendovita_price hendovita_price_at(uint32_t place);
+HENDOVITA_CHECK_RESULT
+struct hendovita_price hendovita_price_at_on(uint32_t table, uint32_t place);
 
 /* The place of a price. None for a price off the ladder, and only then. */
 HENDOVITA_CHECK_RESULT
 struct hendovita_place hendovita_place_of(uint32_t price);
+HENDOVITA_CHECK_RESULT
+struct hendovita_place hendovita_place_of_on(uint32_t table, uint32_t price);
 
 /* The limits of a reference, a ladder price or not: 5 percent of it or 24
  * spreads, whichever is further, both halting at the ends of the ladder. The
@@ -411,6 +484,12 @@ HENDOVITA_CHECK_RESULT
 struct hendovita_price hendovita_lower_limit(uint32_t reference);
 HENDOVITA_CHECK_RESULT
 struct hendovita_price hendovita_upper_limit(uint32_t reference);
+HENDOVITA_CHECK_RESULT
+struct hendovita_price hendovita_lower_limit_on(uint32_t table,
+                                                uint32_t reference);
+HENDOVITA_CHECK_RESULT
+struct hendovita_price hendovita_upper_limit_on(uint32_t table,
+                                                uint32_t reference);
 
 /* The 5 percent limits by themselves, before 24 spreads are looked at, rounded
  * likewise. None from a reference under 0.010 or over 9,995.000, and only
@@ -419,6 +498,12 @@ HENDOVITA_CHECK_RESULT
 struct hendovita_price hendovita_five_percent_lower(uint32_t reference);
 HENDOVITA_CHECK_RESULT
 struct hendovita_price hendovita_five_percent_upper(uint32_t reference);
+HENDOVITA_CHECK_RESULT
+struct hendovita_price hendovita_five_percent_lower_on(uint32_t table,
+                                                       uint32_t reference);
+HENDOVITA_CHECK_RESULT
+struct hendovita_price hendovita_five_percent_upper_on(uint32_t table,
+                                                       uint32_t reference);
 
 #ifdef __cplusplus
 }

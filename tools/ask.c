@@ -179,6 +179,14 @@ static bool read_left(struct text line, uint32_t *left)
         && *left < HENDOVITA_QUESTION_BYTES;
 }
 
+/* Whether a line is the one that is printed where the arguments of pricecheck
+ * name no table: its number alone. */
+static bool is_unknown_table(struct text line)
+{
+    uint32_t number;
+    return read_number(line, &number) && number == HENDOVITA_UNKNOWN_TABLE;
+}
+
 static bool show_line(const struct text_lines *lines)
 {
     struct hendovita_answer answer;
@@ -186,7 +194,9 @@ static bool show_line(const struct text_lines *lines)
     if (!text_fits(lines))
         return false;
     struct text line = text_line(lines);
-    if (read_answer(line, &number, &answer) && number > 0
+    if (is_unknown_table(line))
+        printf("%s (14)\n", hendovita_text(HENDOVITA_UNKNOWN_TABLE));
+    else if (read_answer(line, &number, &answer) && number > 0
         && is_possible(answer))
         print_answer(number, answer);
     else if (read_left(line, &number))

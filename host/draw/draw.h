@@ -1,5 +1,6 @@
 /*
- * Questions and trades drawn from a seed. The same seed gives the same draws.
+ * Questions and trades drawn from a seed, on the table that the plain count has
+ * in use. The same seed gives the same draws on the same table.
  *
  * The draws are weighted so that every answer number comes up often, and so
  * that prices fall at band edges, at the ends of the ladder, at the ends of

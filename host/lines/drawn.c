@@ -1,5 +1,6 @@
 /*
- * drawn N SEED: writes N drawn questions.
+ * drawn N SEED [TABLE]: writes N questions that are drawn on table 1, 2 or 3,
+ * or on 2.
  */
 #include <stdio.h>
 #include <stdlib.h>
@@ -9,12 +10,13 @@
 
 int main(int argc, char **argv)
 {
-    if (argc != 3) {
-        fprintf(stderr, "usage: drawn N SEED\n");
+    plain_begin();
+    if (argc < 3 || argc > 4
+        || (argc == 4 && !plain_use((uint32_t)strtoul(argv[3], NULL, 10)))) {
+        fprintf(stderr, "usage: drawn N SEED [TABLE]\n");
         return 2;
     }
     struct draw draw;
-    plain_begin();
     draw_begin(&draw, strtoull(argv[2], NULL, 10));
     for (unsigned long n = strtoul(argv[1], NULL, 10); n > 0; n--) {
         uint8_t question[40];

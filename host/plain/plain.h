@@ -1,14 +1,17 @@
 /*
  * The price checks by the plain count.
  *
- * All ladder prices stand in one list, in rising order. A spread is a move to
- * the next entry; from a price between two entries it is a move to the one
- * that lies that way. A limit is found by trying one entry after another: from
- * the first, or for a reference between two entries from the limit of the lower
- * one. No place, step or limit is computed from the width of a band.
+ * There are three spread tables, and of each all ladder prices stand in one
+ * list, in rising order. One table is in use, and everything goes by its list.
+ * A spread is a move to the next entry; from a price between two entries it is
+ * a move to the one that lies that way. A limit is found by trying one entry
+ * after another: from the first, or for a reference between two entries from
+ * the limit of the lower one. No place, step or limit is computed from the
+ * width of a band.
  *
  * A day is the list of its accepted events. What it keeps is found by going
- * through that list, each time from its beginning.
+ * through that list, each time from its beginning. It is a day on table 2: that
+ * one is to be in use.
  *
  * A price is a whole number of mils (0.001 of the currency unit). As a
  * reference, 0 means missing. Where a function returns a price, 0 means that
@@ -17,13 +20,16 @@
 #ifndef PLAIN_H
 #define PLAIN_H
 
+#include <stdbool.h>
 #include <stdint.h>
 
 enum {
+    PLAIN_TABLES = 3,
+    PLAIN_PHASE_1 = 2,      /* the table that is in use after plain_begin */
     PLAIN_BANDS = 12,
-    PLAIN_FIRST = 10,       /* the lowest ladder price */
-    PLAIN_LAST = 9995000,   /* the highest ladder price */
-    PLAIN_PRICES = 11740,   /* how many ladder prices there are */
+    PLAIN_FIRST = 10,       /* the lowest ladder price of each table */
+    PLAIN_LAST = 9995000,   /* the highest ladder price of each table */
+    PLAIN_MOST = 12690,     /* the most ladder prices that a table has */
     PLAIN_EVENTS = 64       /* the most events that a day can hold */
 };
 
@@ -32,8 +38,13 @@ struct plain_answer {
     uint32_t number, lowest, highest;
 };
 
-/* Builds the lists. Call it once, before anything else. */
+/* Builds the lists. Call it once, before anything else. Table 2 is in use. */
 void plain_begin(void);
+
+/* From here on a table is in use: 1 is that before Phase 1, 2 that of Phase 1,
+ * 3 that of Phase 2. Any other number names none: false, and the table in use
+ * stays. */
+bool plain_use(uint32_t table);
 
 /* The list: its length, the price at a place, the place of a price (-1 if the
  * price is off the ladder), and the whole list from the first price on. */
@@ -42,7 +53,7 @@ uint32_t plain_price(uint32_t place);
 int32_t plain_place(uint32_t price);
 const uint32_t *plain_list(void);
 
-/* The top price of a band, counted from 0. */
+/* The top price of a band, counted from 0: the same on each table. */
 uint32_t plain_band_top(uint32_t band);
 
 /* n single spreads, one after another, halting at the ends of the ladder; with

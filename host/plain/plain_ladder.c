@@ -1,35 +1,56 @@
 /*
- * The price ladder: the table of bands, the list of all ladder prices, and
- * single spreads up and down that list, from an entry or from between two.
+ * The price ladder: the bands of the three tables, the list of all ladder
+ * prices of each, and single spreads up and down the list in use, from an entry
+ * or from between two.
  */
 #include <stdlib.h>
 
 #include "plain_parts.h"
 
 struct band {
-    uint32_t bottom, top, spread;
+    uint32_t bottom, top;
+    uint32_t spread[PLAIN_TABLES];
 };
 
-/* A band holds its top, not its bottom; only the first holds both. */
+/* The edges are those of all tables; the spreads are before Phase 1, in Phase
+ * 1, in Phase 2. A band holds its top, not its bottom; only the first holds
+ * both. */
 static const struct band bands[PLAIN_BANDS] = {
-    {     10,     250,    1},
-    {    250,     500,    5},
-    {    500,   10000,   10},
-    {  10000,   20000,   10},
-    {  20000,   50000,   20},
-    {  50000,  100000,   50},
-    { 100000,  200000,  100},
-    { 200000,  500000,  200},
-    { 500000, 1000000,  500},
-    {1000000, 2000000, 1000},
-    {2000000, 5000000, 2000},
-    {5000000, 9995000, 5000},
+    {     10,     250, {   1,    1,    1}},
+    {    250,     500, {   5,    5,    5}},
+    {    500,   10000, {  10,   10,    5}},
+    {  10000,   20000, {  20,   10,   10}},
+    {  20000,   50000, {  50,   20,   20}},
+    {  50000,  100000, {  50,   50,   50}},
+    { 100000,  200000, { 100,  100,  100}},
+    { 200000,  500000, { 200,  200,  200}},
+    { 500000, 1000000, { 500,  500,  500}},
+    {1000000, 2000000, {1000, 1000, 1000}},
+    {2000000, 5000000, {2000, 2000, 2000}},
+    {5000000, 9995000, {5000, 5000, 5000}},
 };
 
-static uint32_t list[PLAIN_PRICES];             /* place to price */
-static uint32_t count;
-static uint16_t at_or_above[PLAIN_LAST + 1];    /* price to the place of the
-                                                 * first entry not below it */
+/* How many ladder prices there are to be. */
+static const uint32_t prices[PLAIN_TABLES] = {10340, 11740, PLAIN_MOST};
+
+struct ladder {
+    uint32_t list[PLAIN_MOST];              /* place to price */
+    uint32_t count;
+    uint16_t at_or_above[PLAIN_LAST + 1];   /* price to the place of the first
+                                             * entry not below it */
+};
+
+static struct ladder ladders[PLAIN_TABLES];
+
+/* The table in use, counted from 0, and its ladder. */
+static uint32_t used;
+static struct ladder *ladder = ladders;
+
+void plain_use_ladder(uint32_t table)
+{
+    used = table;
+    ladder = &ladders[table];
+}
 
 /* A ladder price is 10, or a price in a band that exceeds the band's bottom
  * by a multiple of its spread. */
@@ -39,54 +60,54 @@ static bool is_ladder_price(uint32_t price)
         return true;
     for (uint32_t k = 0; k < PLAIN_BANDS; k++) {
         if (bands[k].bottom < price && price <= bands[k].top)
-            return (price - bands[k].bottom) % bands[k].spread == 0;
+            return (price - bands[k].bottom) % bands[k].spread[used] == 0;
     }
     return false;
 }
 
 static void append(uint32_t price)
 {
-    if (count == PLAIN_PRICES)
+    if (ladder->count == prices[used])
         abort();    /* the table is wrong: too many prices */
-    list[count] = price;
-    count++;
+    ladder->list[ladder->count] = price;
+    ladder->count++;
 }
 
 /* Goes through every price in mils and keeps the ladder prices. All that are
  * kept before a price is reached are below it. */
 void plain_begin_ladder(void)
 {
-    count = 0;
+    ladder->count = 0;
     for (uint32_t price = 0; price <= PLAIN_LAST; price++) {
-        at_or_above[price] = (uint16_t)count;
+        ladder->at_or_above[price] = (uint16_t)ladder->count;
         if (is_ladder_price(price))
             append(price);
     }
-    if (count != PLAIN_PRICES)
+    if (ladder->count != prices[used])
         abort();    /* the table is wrong: too few prices */
 }
 
 uint32_t plain_count(void)
 {
-    return count;
+    return ladder->count;
 }
 
 uint32_t plain_price(uint32_t place)
 {
-    return place < count ? list[place] : 0;
+    return place < ladder->count ? ladder->list[place] : 0;
 }
 
 int32_t plain_place(uint32_t price)
 {
     if (price > PLAIN_LAST)
         return -1;
-    uint32_t place = at_or_above[price];
-    return list[place] == price ? (int32_t)place : -1;
+    uint32_t place = ladder->at_or_above[price];
+    return ladder->list[place] == price ? (int32_t)place : -1;
 }
 
 const uint32_t *plain_list(void)
 {
-    return list;
+    return ladder->list;
 }
 
 uint32_t plain_band_top(uint32_t band)
@@ -101,27 +122,28 @@ bool plain_within_ends(uint32_t price)
 
 uint32_t plain_at_or_above(uint32_t price)
 {
-    return at_or_above[price];
+    return ladder->at_or_above[price];
 }
 
 uint32_t plain_at_or_below(uint32_t price)
 {
-    uint32_t place = at_or_above[price];
-    return list[place] == price ? place : place - 1;
+    uint32_t place = ladder->at_or_above[price];
+    return ladder->list[place] == price ? place : place - 1;
 }
 
 /* The place of the first entry above a price. The last price has none above
  * it and stays. */
 static uint32_t place_above(uint32_t price)
 {
-    return price < PLAIN_LAST ? at_or_above[price + 1] : count - 1;
+    return price < PLAIN_LAST ? ladder->at_or_above[price + 1]
+                              : ladder->count - 1;
 }
 
 /* The place of the last entry below a price. The first price has none below it
  * and stays. */
 static uint32_t place_below(uint32_t price)
 {
-    return price > PLAIN_FIRST ? at_or_above[price] - 1u : 0;
+    return price > PLAIN_FIRST ? ladder->at_or_above[price] - 1u : 0;
 }
 
 /* The first spread leads to an entry, whether from an entry or from between
@@ -134,9 +156,9 @@ uint32_t plain_up(uint32_t price, uint64_t n)
     if (n == 0)
         return price;
     uint32_t place = place_above(price);
-    for (uint64_t taken = 1; taken < n && place < count - 1; taken++)
+    for (uint64_t taken = 1; taken < n && place < ladder->count - 1; taken++)
         place++;
-    return list[place];
+    return ladder->list[place];
 }
 
 uint32_t plain_down(uint32_t price, uint64_t n)
@@ -148,5 +170,5 @@ uint32_t plain_down(uint32_t price, uint64_t n)
     uint32_t place = place_below(price);
     for (uint64_t taken = 1; taken < n && place > 0; taken++)
         place--;
-    return list[place];
+    return ladder->list[place];
 }

@@ -1,16 +1,27 @@
 /*
  * The limits of a reference: 5 percent or 24 spreads, whichever is farther.
  *
- * The 5 percent limits of every ladder price are found once, at the start, by
- * trying every ladder price. For a reference between two ladder prices the
- * trial goes on from the limits of the lower one: those of a higher reference
- * are no lower.
+ * The 5 percent limits of every ladder price of a table are found once, at the
+ * start, by trying every ladder price of it. For a reference between two ladder
+ * prices the trial goes on from the limits of the lower one: those of a higher
+ * reference are no lower.
  */
 #include "plain_parts.h"
 
 /* Both by the place of the reference, and both are the place of the limit. */
-static uint32_t lower_place[PLAIN_PRICES];
-static uint32_t upper_place[PLAIN_PRICES];
+struct limits {
+    uint32_t lower_place[PLAIN_MOST];
+    uint32_t upper_place[PLAIN_MOST];
+};
+
+/* By the table counted from 0; those of the table in use. */
+static struct limits all[PLAIN_TABLES];
+static struct limits *limits = all;
+
+void plain_use_limits(uint32_t table)
+{
+    limits = &all[table];
+}
 
 /* The products below stay under 2^32: 105 times the last ladder price is
  * 1,049,475,000. */
@@ -42,7 +53,7 @@ static uint32_t try_upper(uint32_t reference)
 {
     const uint32_t *list = plain_list();
     uint32_t kept = 0;
-    for (uint32_t place = 0; place < PLAIN_PRICES; place++) {
+    for (uint32_t place = 0; place < plain_count(); place++) {
         if (is_at_most_105(list[place], reference))
             kept = place;
     }
@@ -51,9 +62,9 @@ static uint32_t try_upper(uint32_t reference)
 
 void plain_begin_limits(void)
 {
-    for (uint32_t place = 0; place < PLAIN_PRICES; place++) {
-        lower_place[place] = try_lower(plain_price(place));
-        upper_place[place] = try_upper(plain_price(place));
+    for (uint32_t place = 0; place < plain_count(); place++) {
+        limits->lower_place[place] = try_lower(plain_price(place));
+        limits->upper_place[place] = try_upper(plain_price(place));
     }
 }
 
@@ -62,7 +73,7 @@ uint32_t plain_five_percent_lower(uint32_t reference)
     if (!plain_within_ends(reference))
         return 0;
     const uint32_t *list = plain_list();
-    uint32_t place = lower_place[plain_at_or_below(reference)];
+    uint32_t place = limits->lower_place[plain_at_or_below(reference)];
     while (!is_at_least_95(list[place], reference))
         place++;
     return list[place];
@@ -73,8 +84,8 @@ uint32_t plain_five_percent_upper(uint32_t reference)
     if (!plain_within_ends(reference))
         return 0;
     const uint32_t *list = plain_list();
-    uint32_t place = upper_place[plain_at_or_below(reference)];
-    while (place + 1 < PLAIN_PRICES
+    uint32_t place = limits->upper_place[plain_at_or_below(reference)];
+    while (place + 1 < plain_count()
            && is_at_most_105(list[place + 1], reference))
         place++;
     return list[place];

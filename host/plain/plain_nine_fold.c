@@ -5,8 +5,19 @@
 
 /* By the place of a ladder price N: the places of the first and of the last
  * ladder price that pass against N. */
-static int32_t first_passing[PLAIN_PRICES];
-static int32_t last_passing[PLAIN_PRICES];
+struct nine_fold {
+    int32_t first_passing[PLAIN_MOST];
+    int32_t last_passing[PLAIN_MOST];
+};
+
+/* By the table counted from 0; that of the table in use. */
+static struct nine_fold all[PLAIN_TABLES];
+static struct nine_fold *nine_fold = all;
+
+void plain_use_nine_fold(uint32_t table)
+{
+    nine_fold = &all[table];
+}
 
 static bool passes_present(uint32_t price, uint32_t n)
 {
@@ -19,18 +30,19 @@ bool plain_passes(uint32_t price, uint32_t against)
     return plain_missing(against) || passes_present(price, against);
 }
 
-/* Tries every ladder price against every other. */
+/* Tries every ladder price of the table in use against every other. */
 void plain_begin_nine_fold(void)
 {
     const uint32_t *list = plain_list();
-    for (int32_t n = 0; n < PLAIN_PRICES; n++) {
-        first_passing[n] = -1;
-        for (int32_t place = 0; place < PLAIN_PRICES; place++) {
+    int32_t count = (int32_t)plain_count();
+    for (int32_t n = 0; n < count; n++) {
+        nine_fold->first_passing[n] = -1;
+        for (int32_t place = 0; place < count; place++) {
             if (!passes_present(list[place], list[n]))
                 continue;
-            if (first_passing[n] < 0)
-                first_passing[n] = place;
-            last_passing[n] = place;
+            if (nine_fold->first_passing[n] < 0)
+                nine_fold->first_passing[n] = place;
+            nine_fold->last_passing[n] = place;
         }
     }
 }
@@ -42,7 +54,7 @@ static int32_t start_place(uint32_t lowest, uint32_t against)
     int32_t place = plain_place(lowest);
     if (plain_missing(against))
         return place;
-    int32_t first = first_passing[plain_at_or_below(against)];
+    int32_t first = nine_fold->first_passing[plain_at_or_below(against)];
     return place > first ? place : first;
 }
 
@@ -53,7 +65,7 @@ static int32_t end_place(uint32_t highest, uint32_t against)
     int32_t place = plain_place(highest);
     if (plain_missing(against))
         return place;
-    int32_t last = last_passing[plain_at_or_above(against)];
+    int32_t last = nine_fold->last_passing[plain_at_or_above(against)];
     return place < last ? place : last;
 }
 

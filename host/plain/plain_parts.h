@@ -4,8 +4,6 @@
 #ifndef PLAIN_PARTS_H
 #define PLAIN_PARTS_H
 
-#include <stdbool.h>
-
 #include "plain.h"
 
 enum plain_side { PLAIN_BUY = 1, PLAIN_SELL };
@@ -37,8 +35,12 @@ struct plain_range {
     uint32_t lowest, highest;
 };
 
-/* plain_ladder.c, plain_limits.c, plain_nine_fold.c: the parts of plain_begin,
- * to be called in this order. */
+/* plain_ladder.c, plain_limits.c, plain_nine_fold.c: the parts of plain_use, by
+ * the table counted from 0, and of plain_begin, to be called in this order, for
+ * the table in use. */
+void plain_use_ladder(uint32_t table);
+void plain_use_limits(uint32_t table);
+void plain_use_nine_fold(uint32_t table);
 void plain_begin_ladder(void);
 void plain_begin_limits(void);
 void plain_begin_nine_fold(void);

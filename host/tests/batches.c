@@ -1,10 +1,12 @@
 /*
- * Batches: which lengths are judged, and every byte of the answer buffer.
+ * Batches on each table: which lengths are judged, and every byte of the answer
+ * buffer.
  */
 #include <stdbool.h>
 #include <string.h>
 
 #include "draw.h"
+#include "on.h"
 #include "report.h"
 #include "tests.h"
 
@@ -45,7 +47,7 @@ static void judge(size_t asked, size_t room)
     size_t n = judged ? asked / 40 : 0;
     set_pattern(answers, sizeof answers);
     struct hendovita_outcome outcome =
-        hendovita_judge_batch(questions, asked, answers, room);
+        on_batch(questions, asked, answers, room);
     if (outcome.number != !judged || outcome.count != n)
         report_say("  %zu bytes into %zu: found %u %u, due %u %zu", asked,
                    room, outcome.number, outcome.count, !judged, n);
@@ -63,7 +65,7 @@ static void draw_questions(uint64_t seed)
 static void test_sizes(void)
 {
     static const size_t sizes[] = {0, 1, 2, 3, 25, 998, 999, 1000, 1001};
-    report_begin("batches of 0 to 1,001 questions, every byte");
+    on_begin("batches of 0 to 1,001 questions, every byte");
     for (size_t i = 0; i < sizeof sizes / sizeof *sizes; i++) {
         size_t n = sizes[i];
         for (size_t spare = 0; spare <= 13; spare++)
@@ -78,7 +80,7 @@ static void test_sizes(void)
 static void test_lengths(void)
 {
     static const size_t around[] = {40, 80, 1000, 39960, 40000, 40040};
-    report_begin("lengths around multiples of 40");
+    on_begin("lengths around multiples of 40");
     for (size_t asked = 0; asked < 40; asked++)
         judge(asked, sizeof answers);
     for (size_t i = 0; i < sizeof around / sizeof *around; i++)
@@ -92,7 +94,7 @@ static void judge_few(uint8_t buffer[12 * FEW])
 {
     set_pattern(buffer, 12 * FEW);
     struct hendovita_outcome outcome =
-        hendovita_judge_batch(questions, 40 * FEW, buffer, 12 * FEW);
+        on_batch(questions, 40 * FEW, buffer, 12 * FEW);
     report_same("number", outcome.number, 0);
     report_same("count", outcome.count, FEW);
 }
@@ -116,17 +118,22 @@ static void change_bit(size_t j, size_t byte, uint8_t bit)
 
 static void test_one_changed(void)
 {
-    report_begin("one question changed changes that answer alone");
+    on_begin("one question changed changes that answer alone");
     for (size_t j = 0; j < FEW; j++)
         for (size_t byte = 0; byte < 40; byte++)
             for (uint8_t bit = 0; bit < 8; bit++)
                 change_bit(j, byte, (uint8_t)(1 << bit));
 }
 
-void test_batches(void)
+static void test_each(void)
 {
     draw_questions(3);
     test_sizes();
     test_lengths();
     test_one_changed();
+}
+
+void test_batches(void)
+{
+    on_each(test_each);
 }

@@ -1,9 +1,10 @@
 /*
  * Previous closes and nominals that need not be ladder prices: values worked
- * out by hand, and a walk through the prices.
+ * out by hand, on table 2.
  *
  * Each value is held against the library and against the plain count.
  */
+#include "on.h"
 #include "report.h"
 #include "tests.h"
 
@@ -54,20 +55,20 @@ static void same(const char *what, uint32_t price,
 
 static void test_limits(void)
 {
-    report_begin("spreads and limits between ladder prices, by hand");
+    on_begin("spreads and limits between ladder prices, by hand");
     for (size_t i = 0; i < sizeof limits / sizeof *limits; i++) {
         uint32_t price = limits[i].price;
-        same("down", price, hendovita_down(price, 1), plain_down(price, 1),
+        same("down", price, on_down(price, 1), plain_down(price, 1),
              limits[i].down);
-        same("up", price, hendovita_up(price, 1), plain_up(price, 1),
+        same("up", price, on_up(price, 1), plain_up(price, 1),
              limits[i].up);
-        same("5 percent below", price, hendovita_five_percent_lower(price),
+        same("5 percent below", price, on_five_percent_lower(price),
              plain_five_percent_lower(price), limits[i].five_lower);
-        same("5 percent above", price, hendovita_five_percent_upper(price),
+        same("5 percent above", price, on_five_percent_upper(price),
              plain_five_percent_upper(price), limits[i].five_upper);
-        same("lower limit", price, hendovita_lower_limit(price),
+        same("lower limit", price, on_lower_limit(price),
              plain_lower_limit(price), limits[i].lower);
-        same("upper limit", price, hendovita_upper_limit(price),
+        same("upper limit", price, on_upper_limit(price),
              plain_upper_limit(price), limits[i].upper);
     }
 }
@@ -154,14 +155,14 @@ static void same_question(const struct hendovita_question *question,
 {
     uint8_t bytes[40];
     hendovita_put_question(bytes, question);
-    report_question("alone", bytes, hendovita_judge_question(bytes, 40), due);
+    report_question("alone", bytes, on_question(bytes, 40), due);
     report_question("by the plain count", bytes,
                     counted(plain_question(bytes)), due);
 }
 
 static void test_questions(void)
 {
-    report_begin("closes and nominals of questions, by hand");
+    on_begin("closes and nominals of questions, by hand");
     for (size_t i = 0; i < sizeof questions / sizeof *questions; i++)
         same_question(&questions[i].question, questions[i].due);
 }
@@ -190,15 +191,14 @@ static const struct {
 
 static void same_trade(const uint32_t f[6], struct plain_answer due)
 {
-    report_trade(f, hendovita_judge_trade(f[0], f[1], f[2], f[3], f[4], f[5]),
-                 due);
+    report_trade(f, on_trade(f), due);
     report_trade(f, counted(plain_trade(f[0], f[1], f[2], f[3], f[4], f[5])),
                  due);
 }
 
 static void test_trades(void)
 {
-    report_begin("closes of trades, by hand");
+    on_begin("closes of trades, by hand");
     for (size_t i = 0; i < sizeof trades / sizeof *trades; i++)
         same_trade(trades[i].fields, trades[i].due);
 }
@@ -256,49 +256,10 @@ static void test_days_by_hand(void)
     same_question(&due, (struct plain_answer){0, 19050, 180400});
 }
 
-/* ---- a walk ----------------------------------------------------------- */
-
-static void same_asked(const struct hendovita_question *question)
-{
-    uint8_t bytes[40];
-    hendovita_put_question(bytes, question);
-    report_question("alone", bytes, hendovita_judge_question(bytes, 40),
-                    plain_question(bytes));
-}
-
-/* A price as the close of a buy and a sell at the opening, as the nominal of a
- * buy that nothing but the nine-fold rule bounds, and as the close of a
- * trade. */
-static void same_walk(uint32_t price)
-{
-    const struct hendovita_question asked[3] = {
-        {BUY, LIMIT, OPENING, price, .previous_close = price},
-        {SELL, LIMIT, OPENING, price, .previous_close = price},
-        {BUY, LIMIT, BUY_ONLY, price, .current_bid = 10, .nominal = price},
-    };
-    const uint32_t trade[6] = {price, price};
-    for (int i = 0; i < 3; i++)
-        same_asked(&asked[i]);
-    report_trade(trade, hendovita_judge_trade(price, price, 0, 0, 0, 0),
-                 plain_trade(price, price, 0, 0, 0, 0));
-}
-
-static void test_walk(void)
-{
-    report_begin("closes and nominals mil by mil to 1,000, then every 97th");
-    for (uint32_t price = 0; price < 1000000; price++)
-        same_walk(price);
-    for (uint32_t price = 1000000; price <= 10000000; price += 97)
-        same_walk(price);
-    for (uint32_t price = 9994000; price <= 9996000; price++)
-        same_walk(price);
-}
-
 void test_closes(void)
 {
-    test_limits();
-    test_questions();
-    test_trades();
+    on_phase_1(test_limits);
+    on_phase_1(test_questions);
+    on_phase_1(test_trades);
     test_days_by_hand();
-    test_walk();
 }

@@ -35,7 +35,8 @@ static const struct {
      "price of an event off the ladder, or close outside its ends"},
     {13, HENDOVITA_QUOTES_CROSS,
      "bid not below current ask, or ask not above current bid"},
-    {14, 14, "no answer number"},
+    {14, HENDOVITA_UNKNOWN_TABLE, "table number not 1 to 3"},
+    {15, 15, "no answer number"},
     {UINT32_MAX, UINT32_MAX, "no answer number"},
 };
 
@@ -52,7 +53,7 @@ static void test_numbers(void)
 
 static void test_codes(void)
 {
-    report_begin("codes, kinds of events and sizes are those of the paper");
+    report_begin("codes, tables, kinds of events, sizes are as in the paper");
     report_same("buy", HENDOVITA_BUY, 1);
     report_same("sell", HENDOVITA_SELL, 2);
     report_same("limit", HENDOVITA_LIMIT, 1);
@@ -63,6 +64,9 @@ static void test_codes(void)
     report_same("buy queue only", HENDOVITA_BUY_QUEUE_ONLY, 3);
     report_same("sell queue only", HENDOVITA_SELL_QUEUE_ONLY, 4);
     report_same("neither queue", HENDOVITA_NEITHER_QUEUE, 5);
+    report_same("before Phase 1", HENDOVITA_BEFORE_PHASE_1, 1);
+    report_same("Phase 1", HENDOVITA_PHASE_1, 2);
+    report_same("Phase 2", HENDOVITA_PHASE_2, 3);
     report_same("best bid", HENDOVITA_BEST_BID, 1);
     report_same("best ask", HENDOVITA_BEST_ASK, 2);
     report_same("buy queue empty", HENDOVITA_BUY_QUEUE_EMPTY, 3);

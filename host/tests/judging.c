@@ -1,18 +1,20 @@
 /*
- * Questions and trades: the library against the plain count.
+ * Questions and trades on each table: the library against the plain count.
  */
 #include <string.h>
 
 #include "draw.h"
+#include "on.h"
 #include "report.h"
 #include "seen.h"
 #include "tests.h"
 
-enum { BATCH = 1000, BATCHES = 2000, TRADES = 500000 };
+enum { BATCH = 1000, BATCHES = 2000, TRADES = 500000, SETS = 5 };
+enum { CROSSED = 200000 }; /* drawn on each other table */
 
 static void same_answer(const uint8_t question[40])
 {
-    report_question("alone", question, hendovita_judge_question(question, 40),
+    report_question("alone", question, on_question(question, 40),
                     plain_question(question));
 }
 
@@ -33,15 +35,18 @@ static void every_code(uint8_t question[40])
 
 static void test_every_code(void)
 {
-    /* order price, then the eight references where they are present */
-    static const uint32_t fields[3][9] = {
+    /* order price, then the eight references where they are present; the last
+     * two sets have ladder prices of table 3 alone, and of table 1 alone */
+    static const uint32_t fields[SETS][9] = {
         {2500, 2480, 2490, 2470, 2510, 2500, 2400, 2600, 2500},
         {500, 490, 500, 480, 510, 495, 450, 550, 60},
         {10, 10, 11, 12, 9995000, 20000, 250, 10000, 9995000},
+        {2505, 2495, 2505, 2485, 2510, 2501, 2405, 2600, 2504},
+        {25050, 25000, 25050, 24950, 25100, 25020, 24000, 25150, 25010},
     };
     uint8_t question[40];
-    report_begin("every code with every set of missing references");
-    for (uint32_t i = 0; i < 3; i++)
+    on_begin("every code with every set of missing references");
+    for (uint32_t i = 0; i < SETS; i++)
         for (uint32_t present = 0; present < 256; present++) {
             for (uint32_t f = 0; f < 9; f++) {
                 uint32_t given = f == 0 || (present >> (f - 1) & 1) != 0;
@@ -80,8 +85,8 @@ static void same_batch(const uint8_t *questions, uint32_t counts[11],
                        struct seen *seen)
 {
     static uint8_t answers[BATCH * 12];
-    struct hendovita_outcome outcome = hendovita_judge_batch(
-        questions, BATCH * 40, answers, sizeof answers);
+    struct hendovita_outcome outcome =
+        on_batch(questions, BATCH * 40, answers, sizeof answers);
     report_same("number", outcome.number, 0);
     report_same("count", outcome.count, BATCH);
     for (uint32_t k = 0; k < BATCH; k++) {
@@ -91,8 +96,7 @@ static void same_batch(const uint8_t *questions, uint32_t counts[11],
         seen_question(seen, question, due);
         report_question("in a batch", question,
                         hendovita_get_answer(answers + 12 * k), due);
-        report_question("alone", question,
-                        hendovita_judge_question(question, 40), due);
+        report_question("alone", question, on_question(question, 40), due);
     }
 }
 
@@ -103,7 +107,7 @@ static void test_drawn_questions(void)
     uint32_t counts[11] = {0};
     struct seen seen = {0};
     struct draw draw;
-    report_begin("2,000,000 drawn questions, in batches and alone");
+    on_begin("2,000,000 drawn questions, in batches and alone");
     draw_begin(&draw, 1);
     for (uint32_t b = 0; b < BATCHES; b++) {
         for (uint32_t k = 0; k < BATCH; k++)
@@ -122,12 +126,12 @@ static void test_drawn_questions(void)
 static void test_other_lengths(void)
 {
     uint8_t bytes[200];
-    report_begin("one question of another length gets 1 with 0 and 0");
+    on_begin("one question of another length gets 1 with 0 and 0");
     memset(bytes, 1, sizeof bytes);
     for (size_t len = 0; len <= sizeof bytes; len++) {
         if (len == 40)
             continue;
-        struct hendovita_answer found = hendovita_judge_question(bytes, len);
+        struct hendovita_answer found = on_question(bytes, len);
         if (found.number != 1 || found.lowest != 0 || found.highest != 0)
             report_say("  %zu bytes: found %u %u %u", len, found.number,
                        found.lowest, found.highest);
@@ -140,7 +144,7 @@ static void test_drawn_trades(void)
     uint32_t counts[11] = {0};
     struct seen seen = {0};
     struct draw draw;
-    report_begin("500,000 drawn trades");
+    on_begin("500,000 drawn trades");
     draw_begin(&draw, 2);
     for (uint32_t i = 0; i < TRADES; i++) {
         uint32_t f[6];
@@ -149,9 +153,7 @@ static void test_drawn_trades(void)
             plain_trade(f[0], f[1], f[2], f[3], f[4], f[5]);
         counts[due.number]++;
         seen_trade(&seen, f, due);
-        report_trade(f,
-                     hendovita_judge_trade(f[0], f[1], f[2], f[3], f[4], f[5]),
-                     due);
+        report_trade(f, on_trade(f), due);
     }
     often(counts, numbers, sizeof numbers / sizeof *numbers, 20000);
     seen_loose(&seen, SEEN_TRADE_CLOSE);
@@ -159,10 +161,42 @@ static void test_drawn_trades(void)
         seen_strict(&seen, i);
 }
 
+/* Questions and trades that are drawn on one table and judged on another, on
+ * whose ladder many of their prices are not. */
+static void drawn_on(uint32_t other, uint32_t counts[11])
+{
+    struct draw draw;
+    draw_begin(&draw, 10 + other);
+    for (uint32_t i = 0; i < CROSSED; i++) {
+        uint8_t question[40];
+        uint32_t f[6];
+        plain_use(other);
+        draw_question(&draw, question);
+        draw_trade(&draw, f);
+        plain_use(on_which());
+        counts[plain_question(question).number]++;
+        same_answer(question);
+        report_trade(f, on_trade(f),
+                     plain_trade(f[0], f[1], f[2], f[3], f[4], f[5]));
+    }
+}
+
+static void test_drawn_on_others(void)
+{
+    static const uint32_t numbers[] = {0, 3, 7};
+    uint32_t counts[11] = {0};
+    on_begin("400,000 questions and trades drawn on the other tables");
+    for (uint32_t other = 1; other <= PLAIN_TABLES; other++)
+        if (other != on_which())
+            drawn_on(other, counts);
+    often(counts, numbers, sizeof numbers / sizeof *numbers, 10000);
+}
+
 void test_judging(void)
 {
-    test_every_code();
-    test_other_lengths();
-    test_drawn_questions();
-    test_drawn_trades();
+    on_each(test_every_code);
+    on_each(test_other_lengths);
+    on_each(test_drawn_questions);
+    on_each(test_drawn_trades);
+    on_each(test_drawn_on_others);
 }

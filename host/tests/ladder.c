@@ -1,9 +1,10 @@
 /*
- * Every ladder price: its place, and steps from it and from between, against
- * the list.
+ * Every ladder price of each table: its place, and steps from it and from
+ * between, against the list.
  */
 #include <inttypes.h>
 
+#include "on.h"
 #include "report.h"
 #include "tests.h"
 
@@ -18,7 +19,7 @@ static void same_price(const char *what, uint32_t from,
 
 static void same_place(uint32_t price)
 {
-    struct hendovita_place found = hendovita_place_of(price);
+    struct hendovita_place found = on_place_of(price);
     int32_t due = plain_place(price);
     uint32_t place = due < 0 ? 0 : (uint32_t)due;
     if (found.place != place || found.found != (due >= 0))
@@ -28,15 +29,14 @@ static void same_place(uint32_t price)
 
 static void test_places(void)
 {
-    report_begin("every place has its price, and none above the last");
-    report_same("prices", plain_count(), 11740);
+    on_begin("every place has its price, and none above the last");
     for (uint32_t place = 0; place < 20000; place++)
-        same_price("place", place, hendovita_price_at(place),
+        same_price("place", place, on_price_at(place),
                    plain_price(place));
     for (uint32_t place = UINT32_MAX; place > 20000; place -= place / 3)
-        same_price("place", place, hendovita_price_at(place), 0);
+        same_price("place", place, on_price_at(place), 0);
 
-    report_begin("every price up to 10,000.000 has its place, or none");
+    on_begin("every price up to 10,000.000 has its place, or none");
     for (uint32_t price = 0; price <= 10000000; price++)
         same_place(price);
     for (uint32_t price = UINT32_MAX; price > 10000000; price -= price / 999)
@@ -53,9 +53,8 @@ static void same_step(const char *way, uint32_t price, uint64_t n,
 
 static void same_steps(uint32_t price, uint64_t n)
 {
-    same_step("up", price, n, hendovita_up(price, n), plain_up(price, n));
-    same_step("down", price, n, hendovita_down(price, n),
-              plain_down(price, n));
+    same_step("up", price, n, on_up(price, n), plain_up(price, n));
+    same_step("down", price, n, on_down(price, n), plain_down(price, n));
 }
 
 /* A price between a ladder price and the next, another from pair to pair; the
@@ -70,17 +69,17 @@ static uint32_t price_after(uint32_t place)
 static void test_steps(void)
 {
     static const uint64_t large[] = {
-        100, 1000, 11738, 11739, 11740, UINT32_MAX, UINT64_C(1) << 32,
-        UINT64_C(1) << 63, UINT64_MAX,
+        100, 1000, 10338, 10339, 10340, 11738, 11739, 11740, 12688, 12689,
+        12690, UINT32_MAX, UINT64_C(1) << 32, UINT64_C(1) << 63, UINT64_MAX,
     };
-    report_begin("every ladder price and one after it, 0 to 30 spreads");
+    on_begin("every ladder price and one after it, 0 to 30 spreads");
     for (uint32_t place = 0; place < plain_count(); place++)
         for (uint64_t n = 0; n <= 30; n++) {
             same_steps(plain_price(place), n);
             same_steps(price_after(place), n);
         }
 
-    report_begin("every ladder price and one after it, up to 2^64 - 1");
+    on_begin("every ladder price and one after it, up to 2^64 - 1");
     for (uint32_t place = 0; place < plain_count(); place++)
         for (uint32_t i = 0; i < sizeof large / sizeof *large; i++) {
             same_steps(plain_price(place), large[i]);
@@ -90,6 +89,6 @@ static void test_steps(void)
 
 void test_ladder(void)
 {
-    test_places();
-    test_steps();
+    on_each(test_places);
+    on_each(test_steps);
 }

@@ -10,8 +10,11 @@ int main(void)
     test_interface();
     test_ladder();
     test_prices();
+    test_tables();
+    test_unknown();
     test_judging();
     test_closes();
+    test_walk();
     test_refusals();
     test_batches();
     test_memory();

@@ -1,11 +1,12 @@
 /*
  * Memory: no byte is read or written beside those that are handed over, at any
- * alignment, and none at all where the length is 0.
+ * alignment, and none at all where the length is 0; on each table.
  */
 #include <string.h>
 
 #include "draw.h"
 #include "guarded.h"
+#include "on.h"
 #include "report.h"
 #include "tests.h"
 
@@ -16,7 +17,7 @@ static void judge(const uint8_t *questions, size_t n, uint8_t *answers)
 {
     memset(answers, 0xa5, 12 * n);
     struct hendovita_outcome outcome =
-        hendovita_judge_batch(questions, 40 * n, answers, 12 * n);
+        on_batch(questions, 40 * n, answers, 12 * n);
     report_same("number", outcome.number, 0);
     report_same("count", outcome.count, n);
     for (size_t k = 0; k < n; k++)
@@ -30,7 +31,7 @@ static void refuse(const uint8_t *questions, size_t n, uint8_t *answers)
 {
     memset(answers, 0xa5, 12 * n - 1);
     struct hendovita_outcome outcome =
-        hendovita_judge_batch(questions, 40 * n, answers, 12 * n - 1);
+        on_batch(questions, 40 * n, answers, 12 * n - 1);
     report_same("number", outcome.number, 1);
     report_same("count", outcome.count, 0);
     for (size_t i = 0; i < 12 * n - 1; i++)
@@ -41,7 +42,7 @@ static void test_guard_pages(uint8_t *questions, uint8_t *answers,
                              const uint8_t drawn[40000])
 {
     static const size_t sizes[] = {1, 2, 3, 100, 999, 1000};
-    report_begin("questions and answers that end, or begin, at a guard page");
+    on_begin("questions and answers that end, or begin, at a guard page");
     for (size_t i = 0; i < sizeof sizes / sizeof *sizes; i++) {
         size_t n = sizes[i];
         uint8_t *last = questions + BYTES - 40 * n;
@@ -51,7 +52,7 @@ static void test_guard_pages(uint8_t *questions, uint8_t *answers,
         memcpy(questions, drawn, 40 * n);
         judge(questions, n, answers);
         report_question("alone", questions + BYTES - 40,
-                        hendovita_judge_question(questions + BYTES - 40, 40),
+                        on_question(questions + BYTES - 40, 40),
                         plain_question(questions + BYTES - 40));
     }
 }
@@ -59,7 +60,7 @@ static void test_guard_pages(uint8_t *questions, uint8_t *answers,
 static void test_alignment(uint8_t *questions, uint8_t *answers,
                            const uint8_t drawn[40000])
 {
-    report_begin("questions and answers at every alignment");
+    on_begin("questions and answers at every alignment");
     for (size_t i = 0; i < 16; i++) {
         memcpy(questions + i, drawn, 40 * 50);
         for (size_t j = 0; j < 16; j++)
@@ -70,30 +71,31 @@ static void test_alignment(uint8_t *questions, uint8_t *answers,
 static void empty(const uint8_t *questions, uint8_t *answers, size_t room)
 {
     struct hendovita_outcome outcome =
-        hendovita_judge_batch(questions, 0, answers, room);
+        on_batch(questions, 0, answers, room);
     report_same("number", outcome.number, 0);
     report_same("count", outcome.count, 0);
 }
 
 static void test_no_bytes(uint8_t *questions, uint8_t *answers)
 {
-    report_begin("an empty batch, with NULL or at a guard page");
+    on_begin("an empty batch, with NULL or at a guard page");
     answers[0] = 77;
     empty(NULL, NULL, 0);
     empty(NULL, answers, 1);
     empty(questions + BYTES, answers + BYTES, 0);
     report_same("first byte", answers[0], 77);
     struct hendovita_outcome outcome =
-        hendovita_judge_batch(questions, 40, NULL, 0);
+        on_batch(questions, 40, NULL, 0);
     report_same("number without a buffer", outcome.number, 1);
     report_same("number of no question",
-                hendovita_judge_question(NULL, 0).number, 1);
+                on_question(NULL, 0).number, 1);
 }
 
-void test_memory(void)
+static uint8_t *questions, *answers;
+
+static void test_each(void)
 {
     static uint8_t drawn[40000];
-    uint8_t *questions = guarded(), *answers = guarded();
     struct draw draw;
     draw_begin(&draw, 4);
     for (size_t k = 0; k < 1000; k++)
@@ -101,4 +103,11 @@ void test_memory(void)
     test_guard_pages(questions, answers, drawn);
     test_alignment(questions, answers, drawn);
     test_no_bytes(questions, answers);
+}
+
+void test_memory(void)
+{
+    questions = guarded();
+    answers = guarded();
+    on_each(test_each);
 }

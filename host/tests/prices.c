@@ -1,12 +1,13 @@
 /*
- * Every price, on the ladder or not: steps and limits, against a count of the
- * list's entries.
+ * Every price, on the ladder or not: steps and limits on each table, against a
+ * count of the list's entries.
  *
  * The prices are gone through in rising order, and how many entries are below
  * each, and so on, is counted on from one price to the next. No function of
  * the plain count is used but the list, and those functions are held against
  * the same counts.
  */
+#include "on.h"
 #include "report.h"
 #include "tests.h"
 
@@ -26,19 +27,20 @@ struct due {
     uint32_t five_lower, five_upper, lower, upper;
 };
 
+/* The list of the table in use, and its length. */
 static const uint32_t *list;
+static uint32_t count;
 
 static void pass(struct passed *passed, uint32_t price)
 {
-    while (passed->below < PLAIN_PRICES && list[passed->below] < price)
+    while (passed->below < count && list[passed->below] < price)
         passed->below++;
-    while (passed->not_above < PLAIN_PRICES
-           && list[passed->not_above] <= price)
+    while (passed->not_above < count && list[passed->not_above] <= price)
         passed->not_above++;
-    while (passed->under_95 < PLAIN_PRICES
+    while (passed->under_95 < count
            && 100 * list[passed->under_95] < 95 * price)
         passed->under_95++;
-    while (passed->not_over_105 < PLAIN_PRICES
+    while (passed->not_over_105 < count
            && 100 * list[passed->not_over_105] <= 105 * price)
         passed->not_over_105++;
 }
@@ -48,7 +50,7 @@ static void pass(struct passed *passed, uint32_t price)
 static uint32_t up(const struct passed *passed, uint32_t n)
 {
     uint32_t place = passed->not_above + n - 1;
-    return list[place < PLAIN_PRICES ? place : PLAIN_PRICES - 1];
+    return list[place < count ? place : count - 1];
 }
 
 static uint32_t down(const struct passed *passed, uint32_t n)
@@ -58,7 +60,7 @@ static uint32_t down(const struct passed *passed, uint32_t n)
 
 static struct due due_at(const struct passed *passed, uint32_t price)
 {
-    if (passed->not_above == 0 || passed->below == PLAIN_PRICES)
+    if (passed->not_above == 0 || passed->below == count)
         return (struct due){0};
     struct due due = {
         .itself = price,
@@ -88,36 +90,38 @@ static void same(const char *what, uint32_t price,
 
 static void same_steps(uint32_t price, const struct due *due)
 {
-    same("up by 0", price, hendovita_up(price, 0), plain_up(price, 0),
+    same("up by 0", price, on_up(price, 0), plain_up(price, 0),
          due->itself);
-    same("up by 1", price, hendovita_up(price, 1), plain_up(price, 1),
+    same("up by 1", price, on_up(price, 1), plain_up(price, 1),
          due->up_1);
-    same("up by 24", price, hendovita_up(price, 24), plain_up(price, 24),
+    same("up by 24", price, on_up(price, 24), plain_up(price, 24),
          due->up_24);
-    same("down by 0", price, hendovita_down(price, 0), plain_down(price, 0),
+    same("down by 0", price, on_down(price, 0), plain_down(price, 0),
          due->itself);
-    same("down by 1", price, hendovita_down(price, 1), plain_down(price, 1),
+    same("down by 1", price, on_down(price, 1), plain_down(price, 1),
          due->down_1);
-    same("down by 24", price, hendovita_down(price, 24),
-         plain_down(price, 24), due->down_24);
+    same("down by 24", price, on_down(price, 24), plain_down(price, 24),
+         due->down_24);
 }
 
 static void same_limits(uint32_t price, const struct due *due)
 {
-    same("5 percent below", price, hendovita_five_percent_lower(price),
+    same("5 percent below", price, on_five_percent_lower(price),
          plain_five_percent_lower(price), due->five_lower);
-    same("5 percent above", price, hendovita_five_percent_upper(price),
+    same("5 percent above", price, on_five_percent_upper(price),
          plain_five_percent_upper(price), due->five_upper);
-    same("lower limit", price, hendovita_lower_limit(price),
+    same("lower limit", price, on_lower_limit(price),
          plain_lower_limit(price), due->lower);
-    same("upper limit", price, hendovita_upper_limit(price),
+    same("upper limit", price, on_upper_limit(price),
          plain_upper_limit(price), due->upper);
 }
 
 static void test_every_price(void)
 {
     struct passed passed = {0};
-    report_begin("every price up to 10,000.000: 0, 1 and 24 spreads, limits");
+    list = plain_list();
+    count = plain_count();
+    on_begin("every price up to 10,000.000: 0, 1 and 24 spreads, limits");
     for (uint32_t price = 0; price <= HIGHEST; price++) {
         pass(&passed, price);
         struct due due = due_at(&passed, price);
@@ -125,7 +129,7 @@ static void test_every_price(void)
         same_limits(price, &due);
     }
 
-    report_begin("no step and no limit from prices up to 2^32 - 1");
+    on_begin("no step and no limit from prices up to 2^32 - 1");
     const struct due none = {0};
     for (uint32_t price = UINT32_MAX; price > HIGHEST; price -= price / 9999) {
         same_steps(price, &none);
@@ -137,10 +141,10 @@ static void test_every_price(void)
 static void test_order(void)
 {
     uint32_t lower = 0, upper = 0;
-    report_begin("a higher price within the ends has no smaller limit");
+    on_begin("a higher price within the ends has no smaller limit");
     for (uint32_t price = PLAIN_FIRST; price <= PLAIN_LAST; price++) {
-        uint32_t next_lower = hendovita_lower_limit(price).price;
-        uint32_t next_upper = hendovita_upper_limit(price).price;
+        uint32_t next_lower = on_lower_limit(price).price;
+        uint32_t next_upper = on_upper_limit(price).price;
         if (next_lower < lower || next_upper < upper)
             report_say("  the limits of %u are %u and %u, after %u and %u",
                        price, next_lower, next_upper, lower, upper);
@@ -151,7 +155,6 @@ static void test_order(void)
 
 void test_prices(void)
 {
-    list = plain_list();
-    test_every_price();
-    test_order();
+    on_each(test_every_price);
+    on_each(test_order);
 }

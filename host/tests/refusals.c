@@ -1,10 +1,12 @@
 /*
- * Which references get 3: any that lies outside the ends of the ladder, and
- * any but the previous close and the nominal that lies between its prices.
+ * Which references get 3, on each table: any that lies outside the ends of the
+ * ladder, and any but the previous close and the nominal that lies between its
+ * prices.
  */
 #include <stdbool.h>
 
 #include "draw.h"
+#include "on.h"
 #include "report.h"
 #include "tests.h"
 
@@ -18,21 +20,37 @@ static bool is_loose(uint32_t k)
 
 /* ---- one reference ---------------------------------------------------- */
 
+enum { ON_EACH = 7, ON_1 = 1, ON_3 = 4, ON_2_AND_3 = 6 };
+
+/* A price, and the tables on whose ladder it is: a bit for each. */
 static const struct {
-    uint32_t price;
-    bool within, on_ladder;
+    uint32_t price, on;
 } tried[] = {
-    {1, false, false}, {9, false, false}, {10, true, true},
-    {250, true, true}, {251, true, false}, {254, true, false},
-    {255, true, true}, {20000, true, true}, {20050, true, false},
-    {20060, true, true}, {9990000, true, true}, {9994999, true, false},
-    {9995000, true, true}, {9995001, false, false}, {10000000, false, false},
-    {UINT32_MAX, false, false},
+    {1, 0}, {9, 0}, {10, ON_EACH}, {250, ON_EACH}, {251, 0}, {254, 0},
+    {255, ON_EACH}, {501, 0}, {505, ON_3}, {510, ON_EACH}, {9995, ON_3},
+    {10000, ON_EACH}, {10010, ON_2_AND_3}, {10020, ON_EACH}, {19995, 0},
+    {20000, ON_EACH}, {20020, ON_2_AND_3}, {20050, ON_1},
+    {20060, ON_2_AND_3}, {20100, ON_EACH}, {49950, ON_1},
+    {9990000, ON_EACH}, {9994999, 0}, {9995000, ON_EACH}, {9995001, 0},
+    {10000000, 0}, {UINT32_MAX, 0},
 };
+
+static bool is_within(uint32_t price)
+{
+    return price >= 10 && price <= 9995000;
+}
+
+/* Is the price tried a good reference: a loose one, or one that is to be a
+ * ladder price? */
+static bool is_good(size_t i, bool loose)
+{
+    return loose ? is_within(tried[i].price)
+                 : (tried[i].on >> (on_which() - 1) & 1) != 0;
+}
 
 static void same_number(const uint8_t question[40], bool refused)
 {
-    struct hendovita_answer found = hendovita_judge_question(question, 40);
+    struct hendovita_answer found = on_question(question, 40);
     struct plain_answer due = plain_question(question);
     report_question("alone", question, found, due);
     if ((found.number == 3) != refused)
@@ -59,24 +77,21 @@ static void every_code(uint32_t reference, uint32_t price, bool refused)
 
 static void test_questions(void)
 {
-    report_begin("each reference of a question on the ladder, between, past");
+    on_begin("each reference of a question on the ladder, between, past");
     for (size_t i = 0; i < sizeof tried / sizeof *tried; i++)
-        for (uint32_t k = 0; k < REFERENCES; k++) {
-            bool good = is_loose(k) ? tried[i].within : tried[i].on_ladder;
-            every_code(k, tried[i].price, !good);
-        }
+        for (uint32_t k = 0; k < REFERENCES; k++)
+            every_code(k, tried[i].price, !is_good(i, is_loose(k)));
 }
 
 static void test_trades(void)
 {
-    report_begin("each reference of a trade on the ladder, between, past");
+    on_begin("each reference of a trade on the ladder, between, past");
     for (size_t i = 0; i < sizeof tried / sizeof *tried; i++)
         for (uint32_t k = 1; k < 6; k++) {
             uint32_t f[6] = {20000};
             f[k] = tried[i].price;
-            struct hendovita_answer found =
-                hendovita_judge_trade(f[0], f[1], f[2], f[3], f[4], f[5]);
-            bool good = k == 1 ? tried[i].within : tried[i].on_ladder;
+            struct hendovita_answer found = on_trade(f);
+            bool good = is_good(i, k == 1);
             report_trade(f, found,
                          plain_trade(f[0], f[1], f[2], f[3], f[4], f[5]));
             if ((found.number == 3) == good)
@@ -94,7 +109,7 @@ static uint32_t reference_of(const uint8_t question[40], uint32_t k)
 
 static bool is_outside(uint32_t reference)
 {
-    return reference != 0 && (reference < 10 || reference > 9995000);
+    return reference != 0 && !is_within(reference);
 }
 
 static bool is_off_ladder(uint32_t reference)
@@ -139,7 +154,7 @@ enum outcome { SAME, SAME_3, LATER, OUTCOMES };
  * else; then it is a later number, or 0. */
 static enum outcome compare(const uint8_t question[40])
 {
-    struct hendovita_answer found = hendovita_judge_question(question, 40);
+    struct hendovita_answer found = on_question(question, 40);
     struct plain_answer strict = strict_answer(question);
     if (strict.number == 3 && !is_any_bad(question)) {
         if (found.number >= 1 && found.number <= 3)
@@ -155,7 +170,7 @@ static void test_drawn(void)
 {
     uint32_t counts[OUTCOMES] = {0};
     struct draw draw;
-    report_begin("1,000,000 drawn questions against a stricter rule");
+    on_begin("1,000,000 drawn questions against a stricter rule");
     draw_begin(&draw, 9);
     for (uint32_t i = 0; i < DRAWN; i++) {
         uint8_t question[40];
@@ -169,7 +184,7 @@ static void test_drawn(void)
 
 void test_refusals(void)
 {
-    test_questions();
-    test_trades();
-    test_drawn();
+    on_each(test_questions);
+    on_each(test_trades);
+    on_each(test_drawn);
 }

@@ -11,13 +11,13 @@
 
 enum { PRINTED = 5 }; /* faults of a test that are printed */
 
-static const char *running;
+static char running[REPORT_NAME]; /* the name; empty between two tests */
 static uint64_t faults;
 static unsigned passed, failed;
 
 static void end(void)
 {
-    if (running == NULL)
+    if (running[0] == '\0')
         return;
     if (faults == 0) {
         printf("ok\n");
@@ -26,13 +26,13 @@ static void end(void)
         printf("FAILED %s: %" PRIu64 " faults\n", running, faults);
         failed++;
     }
-    running = NULL;
+    running[0] = '\0';
 }
 
 void report_begin(const char *name)
 {
     end();
-    running = name;
+    snprintf(running, sizeof running, "%s", name);
     faults = 0;
     printf("%s ... ", name);
     fflush(stdout);

@@ -9,7 +9,10 @@
 #include "hendovita.h"
 #include "plain.h"
 
-/* Begins a test. Its name is printed before it runs. */
+/* The room of a test's name. */
+enum { REPORT_NAME = 128 };
+
+/* Begins a test. Its name, which is copied, is printed before it runs. */
 void report_begin(const char *name);
 
 /* A fault with a line that says what is wrong, as printf would print it. */

@@ -4,18 +4,23 @@ use mathlib.Core.Logic.{⊎_elim}
 use Prim.Native.Nat.{ℕ, zero, suc, ◌+◌, ◌*◌, ◌≤◌, ◌<◌}
 use native.Mathlib.Nat.{eq-or-lt_of_le, le_of_suc-le-suc}
 use native.Mathlib.Omega.{arith}
-use mathlib.Core.Bool.{Bool, true, false, ◌&&◌, cond}
+use mathlib.Core.Bool.{Bool, true, false, not, ◌&&◌, cond}
 use mathlib.Core.List.{List, ◌++◌, append_assoc}
 use lib.Dec.{T, eqb, leb, ltb, leb→le}
 use lib.ListN.{length, get_or, take, drop, length-drop}
 use lib.Seq.{take_at, drop_at, get_or-take, get_or-drop, length-take-le}
 use borrow.Author.Tests.{not-true, eqb-true, eqb-false, le-ltb}
-use Rattle.ladder.specs.Bands.{Table, well_formed}
+use Rattle.tables.specs.Bands.{Table, well_formed}
+use Rattle.tables.specs.Named.{table_named, unknown_table}
+use Rattle.tables.proofs.Laws.{table_laws}
+use Rattle.ladder.specs.Named.{ladder_named}
 use Rattle.ladder.specs.Ladder.{ladder, is_ladder_price}
 use Rattle.ladder.specs.Places.{last_price}
-use Rattle.facts.proofs.Tests.{passed, and_right, or_cases}
+use Rattle.facts.proofs.Tests.{passed, true_of, and_right, or_cases}
 use Rattle.ladder.proofs.Laws.{ladder_laws}
 use Rattle.limits.specs.declared.Percentage.{Percentage}
+use Rattle.limits.specs.Limits.{five_percent}
+use Rattle.limits.specs.Terms.{terms_on}
 use Rattle.little_endian.specs.Numbers.{number}
 use Rattle.questions.specs.Record.{question_bytes, count_of, question_at}
 use Rattle.little_endian.specs.Laws.{number_bound}
@@ -24,9 +29,10 @@ use Rattle.judging.specs.declared.Answer.{Answer}
 use Rattle.judging.specs.Answers.{judged}
 use Rattle.judging.specs.Laws.{not_refused, is_question_number}
 use Rattle.judging.proofs.Laws.{judging_laws}
+use Rattle.batch.specs.declared.Outcome.{Outcome}
 use Rattle.batch.specs.Record.{answer_bytes, encoded, answer_at}
-use Rattle.batch.specs.Batch.{refused, answers_to, answered, buffer_after}
-use Rattle.batch.specs.Laws.{is_judged, EmptyBatch, AnswerAlone, AnswerReadsBack, SameBut, OthersKept, AnyOrderPriceInBatch, BatchLaws}
+use Rattle.batch.specs.Batch.{refused, answers_to, answered, buffer_after, outcome_found}
+use Rattle.batch.specs.Laws.{is_judged, EmptyBatch, AnswerAlone, AnswerReadsBack, SameBut, OthersKept, AnyOrderPriceInBatch, BatchOnTable, AnyOrderPriceInBatchOn, BatchLaws}
 use Rattle.batch.proofs.Lengths.{whole}
 use Rattle.batch.proofs.Changes.{same_question, changed_record, followed}
 use Rattle.batch.proofs.Buffer.{length_encoded, length_answers}
@@ -140,6 +146,51 @@ any_order_price_in_batch t wf fits percent s u a b h i k m n same judged_before 
     (judging_laws.any_order_price t wf percent (question_at k s) (question_at k u) (length_question s k m) (length_question u k n) same
     (subst (λ (x : Answer). T (not_refused x.number)) first judged_before))
 
+-- ---- on a table by its number
+
+batch_on_table : BatchOnTable
+batch_on_table n s a =
+    record {
+      no_batch = λ h. no_batch (passed _ h) (unknown_table n) refl;
+      unknown = λ h e. rw (e, judged_into s a h) refl;
+      untouched = λ e. rw e refl;
+      named = λ e. rw e refl;
+      buffer = λ e. rw e refl;
+    }
+  where
+    no_batch : refused (length s) (length a) ≡ true → (v : Bool) → unknown_table n ≡ v → outcome_found (terms_on n) s a ≡ record { number = 1; count = 0 }
+    no_batch h true e = rw (e, h) refl
+    no_batch h false e = rw (e, h) refl
+
+-- a batch that is returned with number 0 was judged, and its table is one that there is
+module _ (n : ℕ) (s a : List ℕ) (returned : (outcome_found (terms_on n) s a).number ≡ 0) where
+  is_a_batch : T (is_judged s a)
+  is_a_batch = go (refused (length s) (length a)) refl where
+    go : (v : Bool) → refused (length s) (length a) ≡ v → T (not v)
+    go true e = absurd (not_returned (ap (λ (o : Outcome). o.number) ((batch_on_table n s a).no_batch (true_of _ e)))) where
+      not_returned : (outcome_found (terms_on n) s a).number ≡ 1 → ⊥
+      not_returned one = omega (arith, returned)
+    go false e = tt
+
+  has_a_table : unknown_table n ≡ false
+  has_a_table = go (unknown_table n) refl where
+    go : (v : Bool) → unknown_table n ≡ v → v ≡ false
+    go true e = absurd (not_returned (ap (λ (o : Outcome). o.number) ((batch_on_table n s a).unknown is_a_batch e))) where
+      not_returned : (outcome_found (terms_on n) s a).number ≡ 14 → ⊥
+      not_returned fourteen = omega (arith, returned)
+    go false e = refl
+
+any_order_price_in_batch_on : AnyOrderPriceInBatchOn
+any_order_price_in_batch_on n s u a b first second k m o same judged_before =
+    let known = has_a_table n s a first in
+    let wf = (table_laws.named_tables n).well_formed_lem known in
+    let fits : last_price (ladder_named n) < number_bound = rw (ladder_laws.same_ends n known).to_last (omega arith) in
+    let of_s = (batch_on_table n s a).buffer known in
+    let of_u = (batch_on_table n u b).buffer known in
+    rw (of_s, of_u)
+    (any_order_price_in_batch (table_named n) wf fits five_percent s u a b (is_a_batch n s a first) (is_a_batch n u b second) k m o same
+    (rw of_s at judged_before))
+
 -- ---- one question changed
 
 module _ (l : List ℕ) (percent : Percentage) (j : ℕ) (s u : List ℕ) (same : SameBut question_bytes j s u) where
@@ -178,4 +229,6 @@ batch_laws =
       answer_reads_back = answer_reads_back;
       others_kept = others_kept;
       any_order_price_in_batch = any_order_price_in_batch;
+      batch_on_table = batch_on_table;
+      any_order_price_in_batch_on = any_order_price_in_batch_on;
     }

@@ -3,7 +3,7 @@ ghost use Rattle.std.specs.Prelude.{◌≡◌, ◌*◌, ◌≤◌, length};
 ghost use Rattle.ladder.specs.Layout.{prices_of};
 ghost use Rattle.questions.specs.Record.{count_of};
 ghost use Rattle.batch.specs.Record.{answer_bytes};
-ghost use Rattle.batch.specs.Batch.{answered, counted, buffer_after};
+ghost use Rattle.batch.specs.Batch.{answered, counted};
 
 use super::{ANSWER_BYTES, MOST_QUESTIONS, TurnedAway, encoding};
 use judging::answers::judge as judge_question;
@@ -11,7 +11,7 @@ use limits::terms::Terms;
 use questions::QUESTION_BYTES;
 
 // How many questions a batch has, or that it is turned away: by its bytes, and those of the answer buffer.
-fn count(asked: usize, room: usize) -> Result<usize, TurnedAway>
+pub(crate) fn count(asked: usize, room: usize) -> Result<usize, TurnedAway>
     ensures { result ≡ counted asked room }
 {
     let count = asked / QUESTION_BYTES;
@@ -19,13 +19,13 @@ fn count(asked: usize, room: usize) -> Result<usize, TurnedAway>
         | (MOST_QUESTIONS < count)
         | (room < count * ANSWER_BYTES);
     if is_refused {
-        return Err(TurnedAway);
+        return Err(TurnedAway::NotABatch);
     }
     Ok(count)
 }
 
-// Judges each question.
-fn answer_each(terms: &Terms, questions: &[u8], answers: &mut [u8])
+// Judges each question into the buffer of its answers.
+pub(crate) fn answer_each(terms: &Terms, questions: &[u8], answers: &mut [u8])
     requires room { count_of (length questions.now) * answer_bytes ≤ length answers.old }
     ensures { answers.new ≡ answered (prices_of terms.now.table) terms.now.percentage (count_of (length questions.now)) questions.now answers.old }
 {
@@ -34,14 +34,4 @@ fn answer_each(terms: &Terms, questions: &[u8], answers: &mut [u8])
         let start = k * ANSWER_BYTES;
         encoding::encode(&mut answers[start..start + ANSWER_BYTES], answer);
     }
-}
-
-// Judges each question of a batch into the buffer of its answers.
-pub fn judge(terms: &Terms, questions: &[u8], answers: &mut [u8]) -> Result<u32, TurnedAway>
-    ensures count { result ≡ counted (length questions.now) (length answers.old) }
-    ensures buffer { answers.new ≡ buffer_after (prices_of terms.now.table) terms.now.percentage questions.now answers.old }
-{
-    let count = count(questions.len(), answers.len())?;
-    answer_each(terms, questions, answers);
-    Ok(count as u32)
 }

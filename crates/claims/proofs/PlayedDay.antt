@@ -1,6 +1,6 @@
 -- The claim, computed.
 use mathlib.Core.Path.{refl}
-use Rattle.ladder.specs.Bands.{phase1}
+use Rattle.tables.specs.Named.{phase1}
 use Rattle.ladder.specs.Ladder.{rungs, band_prices, ladder}
 use Rattle.ladder.specs.Places.{last_after, is_outside}
 use Rattle.facts.specs.Lists.{holds}

@@ -1,6 +1,6 @@
 -- Lines A to M of "Prices worked out", each right or wrong by the definitions. Prices are mils.
 use Rattle.std.specs.Prelude.{◌≡◌, ℕ, zero, suc, ◌/◌, ◌%◌, Bool, true, false, ◌&&◌, List, [], ◌∷◌, ◌++◌, eqb, Option, Some, None}
-use Rattle.ladder.specs.Bands.{phase1}
+use Rattle.tables.specs.Named.{phase1}
 use Rattle.ladder.specs.Ladder.{Prices, ladder}
 use Rattle.ladder.specs.Spreads.{spreads_up, spreads_down}
 use Rattle.limits.specs.Limits.{five_percent, lower_limit_found, upper_limit_found}
@@ -9,7 +9,7 @@ use Rattle.judging.specs.Answers.{judged}
 use Rattle.trades.specs.declared.TradeReferences.{TradeReferences}
 use Rattle.trades.specs.Trades.{trade_references_of, trade_judged}
 
--- the ladder of every line
+-- the ladder of the lines of the paper
 abbrev pub prices : Prices
 prices = ladder phase1
 
@@ -107,14 +107,19 @@ unfoldable pub every : {A : Type 0} → (A → Bool) → List A → Bool
 every test [] = true
 every test (x ∷ rest) = test x && every test rest
 
-unfoldable pub right : Line → Bool
-right (order ask lowest highest tried) = every (λ a. is (judged prices five_percent (ask a.price)) a.number lowest highest) tried
-right (bytes s number lowest highest) = is (judged prices five_percent s) number lowest highest
-right (low r q) = finds (lower_limit_found prices five_percent r) q
-right (high r q) = finds (upper_limit_found prices five_percent r) q
-right (trade r lowest highest tried) = every (λ a. is (trade_judged prices five_percent a.price r) a.number lowest highest) tried
-right (up p n q) = finds (spreads_up prices p n) q
-right (down p n q) = finds (spreads_down prices p n) q
+-- on the ladder l
+unfoldable pub right_on : Prices → Line → Bool
+right_on l (order ask lowest highest tried) = every (λ a. is (judged l five_percent (ask a.price)) a.number lowest highest) tried
+right_on l (bytes s number lowest highest) = is (judged l five_percent s) number lowest highest
+right_on l (low r q) = finds (lower_limit_found l five_percent r) q
+right_on l (high r q) = finds (upper_limit_found l five_percent r) q
+right_on l (trade r lowest highest tried) = every (λ a. is (trade_judged l five_percent a.price r) a.number lowest highest) tried
+right_on l (up p n q) = finds (spreads_up l p n) q
+right_on l (down p n q) = finds (spreads_down l p n) q
+
+-- on that of Phase 1
+abbrev pub right : Line → Bool
+right line = right_on prices line
 
 -- ---- the lines
 

@@ -1,12 +1,12 @@
 // The tests that turn a close or an event away.
 ghost use Rattle.std.specs.Prelude.{◌≡◌};
-ghost use Rattle.ladder.specs.Bands.{phase1};
+ghost use Rattle.tables.specs.Named.{phase1};
 ghost use Rattle.ladder.specs.Ladder.{ladder};
 ghost use Rattle.facts.specs.Lists.{holds};
 ghost use Rattle.questions.specs.Checks.{lies_outside};
 ghost use Rattle.daybook.specs.Accepted.{meet};
 
-use ladder::table::phase_1;
+use ladder::named::phase_1;
 use questions::Reference;
 
 // Whether a reference is present, but outside the ladder's ends.

@@ -8,7 +8,7 @@ mod acceptance; // acceptance.rt: the tests that turn a close or an event away
 mod keeping; // keeping.rt: what an event makes of the prices that are kept
 
 ghost use Rattle.std.specs.Prelude.{◌≡◌};
-ghost use Rattle.ladder.specs.Bands.{phase1};
+ghost use Rattle.tables.specs.Named.{phase1};
 ghost use Rattle.ladder.specs.Ladder.{ladder};
 ghost use Rattle.daybook.specs.Events.{event, best_bid, best_ask, buy_queue_empty, sell_queue_empty, system_trade};
 ghost use Rattle.daybook.specs.Accepted.{told_number};

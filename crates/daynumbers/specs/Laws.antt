@@ -3,7 +3,7 @@
 use Rattle.std.specs.Prelude.{◌≡◌, ℕ, ◌<◌, T}
 use Rattle.little_endian.specs.Numbers.{Bytes}
 use Rattle.little_endian.specs.Laws.{number_bound}
-use Rattle.ladder.specs.Bands.{Table, well_formed}
+use Rattle.tables.specs.Bands.{Table, well_formed}
 use Rattle.ladder.specs.Ladder.{Prices, ladder}
 use Rattle.ladder.specs.Places.{last_price}
 use Rattle.limits.specs.declared.Percentage.{Percentage}

@@ -9,7 +9,7 @@ use borrow.Author.Tests.{lt-ltb, ne_eqb, not-false}
 use Rattle.little_endian.specs.Laws.{byte_bound, number_bound}
 use Rattle.facts.proofs.Tests.{and_both, true_of}
 use Rattle.std.proofs.lemmas.Bool.{true≢false}
-use Rattle.ladder.specs.Bands.{Table, well_formed}
+use Rattle.tables.specs.Bands.{Table, well_formed}
 use Rattle.ladder.specs.Ladder.{Prices, ladder}
 use Rattle.ladder.specs.Places.{last_price}
 use Rattle.ladder.proofs.Laws.{ladder_laws}

@@ -2,7 +2,7 @@
 -- FillingLaws at the end, which proofs/Laws.antt proves as filling_laws: OpeningUntilQuoted is the field opening_until_quoted.
 use Rattle.std.specs.Prelude.{◌≡◌, ◌<◌, true, false, not, ◌&&◌, T, eqb}
 use Rattle.little_endian.specs.Laws.{byte_bound, number_bound}
-use Rattle.ladder.specs.Bands.{Table, well_formed}
+use Rattle.tables.specs.Bands.{Table, well_formed}
 use Rattle.ladder.specs.Ladder.{Prices, ladder}
 use Rattle.ladder.specs.Places.{last_price}
 use Rattle.limits.specs.declared.Percentage.{Percentage}

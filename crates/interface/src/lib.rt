@@ -1,18 +1,20 @@
 // The C interface beside the batch: the other functions that include/hendovita.h declares. Each hands on to a call of the crates below,
-// and none has a precondition.
+// and none has a precondition. One whose name ends in `_on` uses the table that a number names, and finds nothing where it names none.
 #![tactic(auto)]
 
 mod results; // results.rt: a price or a place, or none, as two numbers
 
 ghost use Rattle.std.specs.Prelude.{◌≡◌};
-ghost use Rattle.ladder.specs.Bands.{phase1};
+ghost use Rattle.tables.specs.Named.{phase1};
 ghost use Rattle.ladder.specs.Ladder.{ladder};
+ghost use Rattle.ladder.specs.Named.{ladder_named, usual_ladder};
 ghost use Rattle.ladder.specs.Places.{price_at, place_of};
 ghost use Rattle.ladder.specs.Spreads.{spreads_up, spreads_down};
 ghost use Rattle.limits.specs.Limits.{five_percent, percent_lower_found, percent_upper_found, lower_limit_found, upper_limit_found};
 ghost use Rattle.questions.specs.Missing.{reference_of};
-ghost use Rattle.judging.specs.Answers.{judged};
-ghost use Rattle.trades.specs.Trades.{trade_references_of, trade_judged};
+ghost use Rattle.limits.specs.Terms.{terms_on};
+ghost use Rattle.judging.specs.Answers.{judged, judged_by};
+ghost use Rattle.trades.specs.Trades.{trade_references_of, trade_judged, trade_judged_by};
 ghost use Rattle.daybook.specs.Events.{event};
 ghost use Rattle.daybook.specs.Days.{opened, entered};
 ghost use Rattle.dayquestion.specs.Filling.{fill_number, filled};
@@ -45,9 +47,17 @@ pub struct PlaceFound {
 // The answer to one question of 40 bytes; to any other number of bytes 1, with 0 and 0.
 #[unsafe(no_mangle)]
 pub extern "C" fn hendovita_judge_question(question: &[u8]) -> Answer
-    ensures { result ≡ judged (ladder phase1) five_percent question.now }
+    ensures { result ≡ judged usual_ladder five_percent question.now }
 {
     judging::judge(question)
+}
+
+// The same on the table that a number names; where it names none, after 1, 14 with 0 and 0.
+#[unsafe(no_mangle)]
+pub extern "C" fn hendovita_judge_question_on(table: u32, question: &[u8]) -> Answer
+    ensures { result ≡ judged_by (terms_on table) question.now }
+{
+    judging::judge_on(table, question)
 }
 
 // The answer to an off-System trade. After the trade price, 0 means missing.
@@ -60,9 +70,33 @@ pub extern "C" fn hendovita_judge_trade(
     highest_bid: u32,
     highest_ask: u32,
 ) -> Answer
-    ensures { result ≡ trade_judged (ladder phase1) five_percent price (trade_references_of previous_close lowest_bid lowest_ask highest_bid highest_ask) }
+    ensures { result ≡ trade_judged usual_ladder five_percent price (trade_references_of previous_close lowest_bid lowest_ask highest_bid highest_ask) }
 {
     trades::judge_trade(
+        price,
+        previous_close,
+        lowest_bid,
+        lowest_ask,
+        highest_bid,
+        highest_ask,
+    )
+}
+
+// The same on the table that a number names; where it names none, 14 with 0 and 0.
+#[unsafe(no_mangle)]
+pub extern "C" fn hendovita_judge_trade_on(
+    table: u32,
+    price: u32,
+    previous_close: u32,
+    lowest_bid: u32,
+    lowest_ask: u32,
+    highest_bid: u32,
+    highest_ask: u32,
+) -> Answer
+    ensures { result ≡ trade_judged_by (terms_on table) price (trade_references_of previous_close lowest_bid lowest_ask highest_bid highest_ask) }
+{
+    trades::judge_trade_on(
+        table,
         price,
         previous_close,
         lowest_bid,
@@ -75,65 +109,129 @@ pub extern "C" fn hendovita_judge_trade(
 // The price n spreads up; none from a price outside the ladder's ends.
 #[unsafe(no_mangle)]
 pub extern "C" fn hendovita_up(price: u32, n: u64) -> PriceFound
-    ensures { result ≡ price_found (spreads_up (ladder phase1) price n) }
+    ensures { result ≡ price_found (spreads_up usual_ladder price n) }
 {
     PriceFound::from(ladder::up(price, n))
+}
+
+// The same on the table that a number names; none also where it names none.
+#[unsafe(no_mangle)]
+pub extern "C" fn hendovita_up_on(table: u32, price: u32, n: u64) -> PriceFound
+    ensures { result ≡ price_found (spreads_up (ladder_named table) price n) }
+{
+    PriceFound::from(ladder::up_on(table, price, n))
 }
 
 // The price n spreads down; none from a price outside the ladder's ends.
 #[unsafe(no_mangle)]
 pub extern "C" fn hendovita_down(price: u32, n: u64) -> PriceFound
-    ensures { result ≡ price_found (spreads_down (ladder phase1) price n) }
+    ensures { result ≡ price_found (spreads_down usual_ladder price n) }
 {
     PriceFound::from(ladder::down(price, n))
+}
+
+// The same on the table that a number names; none also where it names none.
+#[unsafe(no_mangle)]
+pub extern "C" fn hendovita_down_on(table: u32, price: u32, n: u64) -> PriceFound
+    ensures { result ≡ price_found (spreads_down (ladder_named table) price n) }
+{
+    PriceFound::from(ladder::down_on(table, price, n))
 }
 
 // The price at a place; none above the last place.
 #[unsafe(no_mangle)]
 pub extern "C" fn hendovita_price_at(place: u32) -> PriceFound
-    ensures { result ≡ price_found (price_at place (ladder phase1)) }
+    ensures { result ≡ price_found (price_at place usual_ladder) }
 {
     PriceFound::from(ladder::price_at(place))
+}
+
+// The same on the table that a number names; none also where it names none.
+#[unsafe(no_mangle)]
+pub extern "C" fn hendovita_price_at_on(table: u32, place: u32) -> PriceFound
+    ensures { result ≡ price_found (price_at place (ladder_named table)) }
+{
+    PriceFound::from(ladder::price_at_on(table, place))
 }
 
 // The place of a price; none off the ladder.
 #[unsafe(no_mangle)]
 pub extern "C" fn hendovita_place_of(price: u32) -> PlaceFound
-    ensures { result ≡ place_found (place_of price (ladder phase1)) }
+    ensures { result ≡ place_found (place_of price usual_ladder) }
 {
     PlaceFound::from(ladder::place_of(price))
+}
+
+// The same on the table that a number names; none also where it names none.
+#[unsafe(no_mangle)]
+pub extern "C" fn hendovita_place_of_on(table: u32, price: u32) -> PlaceFound
+    ensures { result ≡ place_found (place_of price (ladder_named table)) }
+{
+    PlaceFound::from(ladder::place_of_on(table, price))
 }
 
 // The lower limit of a reference; none outside the ladder's ends.
 #[unsafe(no_mangle)]
 pub extern "C" fn hendovita_lower_limit(reference: u32) -> PriceFound
-    ensures { result ≡ price_found (lower_limit_found (ladder phase1) five_percent reference) }
+    ensures { result ≡ price_found (lower_limit_found usual_ladder five_percent reference) }
 {
     PriceFound::from(limits::lower_limit(reference))
+}
+
+// The same on the table that a number names; none also where it names none.
+#[unsafe(no_mangle)]
+pub extern "C" fn hendovita_lower_limit_on(table: u32, reference: u32) -> PriceFound
+    ensures { result ≡ price_found (lower_limit_found (ladder_named table) five_percent reference) }
+{
+    PriceFound::from(limits::lower_limit_on(table, reference))
 }
 
 // The upper limit of a reference; none outside the ladder's ends.
 #[unsafe(no_mangle)]
 pub extern "C" fn hendovita_upper_limit(reference: u32) -> PriceFound
-    ensures { result ≡ price_found (upper_limit_found (ladder phase1) five_percent reference) }
+    ensures { result ≡ price_found (upper_limit_found usual_ladder five_percent reference) }
 {
     PriceFound::from(limits::upper_limit(reference))
+}
+
+// The same on the table that a number names; none also where it names none.
+#[unsafe(no_mangle)]
+pub extern "C" fn hendovita_upper_limit_on(table: u32, reference: u32) -> PriceFound
+    ensures { result ≡ price_found (upper_limit_found (ladder_named table) five_percent reference) }
+{
+    PriceFound::from(limits::upper_limit_on(table, reference))
 }
 
 // The lower 5 percent limit of a reference, before spreads are looked at; none outside the ladder's ends.
 #[unsafe(no_mangle)]
 pub extern "C" fn hendovita_five_percent_lower(reference: u32) -> PriceFound
-    ensures { result ≡ price_found (percent_lower_found (ladder phase1) five_percent reference) }
+    ensures { result ≡ price_found (percent_lower_found usual_ladder five_percent reference) }
 {
     PriceFound::from(limits::five_percent_lower(reference))
+}
+
+// The same on the table that a number names; none also where it names none.
+#[unsafe(no_mangle)]
+pub extern "C" fn hendovita_five_percent_lower_on(table: u32, reference: u32) -> PriceFound
+    ensures { result ≡ price_found (percent_lower_found (ladder_named table) five_percent reference) }
+{
+    PriceFound::from(limits::five_percent_lower_on(table, reference))
 }
 
 // The upper 5 percent limit of a reference, before spreads are looked at; none outside the ladder's ends.
 #[unsafe(no_mangle)]
 pub extern "C" fn hendovita_five_percent_upper(reference: u32) -> PriceFound
-    ensures { result ≡ price_found (percent_upper_found (ladder phase1) five_percent reference) }
+    ensures { result ≡ price_found (percent_upper_found usual_ladder five_percent reference) }
 {
     PriceFound::from(limits::five_percent_upper(reference))
+}
+
+// The same on the table that a number names; none also where it names none.
+#[unsafe(no_mangle)]
+pub extern "C" fn hendovita_five_percent_upper_on(table: u32, reference: u32) -> PriceFound
+    ensures { result ≡ price_found (percent_upper_found (ladder_named table) five_percent reference) }
+{
+    PriceFound::from(limits::five_percent_upper_on(table, reference))
 }
 
 // A fresh day with this previous close; 0 is none. A close outside the ladder's ends gets 12, and the day has none.

@@ -5,7 +5,7 @@ use mathlib.Core.Bool.{Bool, true, false, not, cond, ◌&&◌}
 use lib.Dec.{T, eqb, leb}
 use Rattle.facts.proofs.Tests.{below}
 use Rattle.std.proofs.lemmas.Bool.{true≢false}
-use Rattle.ladder.specs.Bands.{Table, well_formed}
+use Rattle.tables.specs.Bands.{Table, well_formed}
 use Rattle.ladder.specs.Ladder.{ladder, is_ladder_price}
 use Rattle.ladder.proofs.Laws.{ladder_laws}
 use Rattle.ranges.specs.declared.Range.{Range}

@@ -6,7 +6,7 @@ use native.Mathlib.Omega.{arith}
 use mathlib.Core.Bool.{Bool, true, false, cond, ◌&&◌}
 use lib.Dec.{T, leb, ltb, leb→le, le→leb, ltb→lt, lt→ltb}
 use borrow.Author.Tests.{ltb-true, ltb-false}
-use Rattle.ladder.specs.Bands.{Table, well_formed}
+use Rattle.tables.specs.Bands.{Table, well_formed}
 use Rattle.ladder.specs.Ladder.{ladder, is_ladder_price}
 use Rattle.ladder.specs.Search.{first, latest, at_least, at_most}
 use Rattle.ladder.specs.Laws.{NonePasses}

@@ -9,13 +9,18 @@ use mathlib.Core.List.{List}
 use lib.Dec.{T, eqb, leb, leb→le}
 use lib.ListN.{length}
 use borrow.Author.Tests.{eqb-true, eqb-false, eq-eqb, ne_eqb}
-use Rattle.ladder.specs.Bands.{Table, well_formed}
+use Rattle.tables.specs.Bands.{Table, well_formed}
+use Rattle.tables.specs.Named.{table_named, unknown_table, usual_table}
+use Rattle.tables.proofs.Laws.{table_laws}
 use Rattle.ladder.specs.Ladder.{ladder, is_ladder_price}
+use Rattle.ladder.specs.Named.{ladder_named, usual_ladder}
 use Rattle.ladder.specs.Search.{first, latest, or_else}
 use Rattle.ladder.specs.Laws.{Finds, Least, Greatest}
 use Rattle.facts.proofs.Tests.{and_left, and_right, true_of}
 use Rattle.ladder.proofs.Laws.{ladder_laws}
 use Rattle.limits.specs.declared.Percentage.{Percentage}
+use Rattle.limits.specs.Limits.{five_percent}
+use Rattle.limits.specs.Terms.{terms_on}
 use Rattle.questions.specs.Record.{question_bytes, codes_of, price_of, references_of, decoded}
 use Rattle.ranges.specs.declared.Range.{Range}
 use Rattle.ranges.specs.declared.Refusal.{Refusal}
@@ -28,8 +33,8 @@ use Rattle.judging.specs.Shown.{is_shown, shown_of}
 use Rattle.judging.specs.Cutting.{cut_lowest, cut_highest}
 use Rattle.judging.specs.Verdicts.{verdict_of}
 use Rattle.judging.specs.Numbers.{wrong_length, refusal_number, verdict_number}
-use Rattle.judging.specs.Answers.{none_shown, answer_on, answer_by, answer_decoded, judged}
-use Rattle.judging.specs.Laws.{ShownIsExactly, LadderRange, RangeOrNone, not_refused, SameRange, AnyOrderPrice, is_question_number, is_refusal, QuestionNumbers, JudgingLaws}
+use Rattle.judging.specs.Answers.{none_shown, answer_on, answer_by, answer_decoded, judged, judged_by}
+use Rattle.judging.specs.Laws.{ShownIsExactly, LadderRange, RangeOrNone, not_refused, SameRange, AnyOrderPrice, JudgedOnTable, AnyOrderPriceOn, is_question_number, is_refusal, QuestionNumbers, JudgingLaws}
 use Rattle.judging.proofs.Cuts.{window}
 use Rattle.judging.proofs.Windows.{over_zero, exactly}
 use Rattle.judging.proofs.Acceptance.{accepts, judged_number}
@@ -149,6 +154,34 @@ any_order_price t wf percent s u ns nu same h =
             (is_ladder_price p t && leb (judged (ladder t) percent s).lowest p && leb p (judged (ladder t) percent s).highest)
         accepted = rw (a, b) (accepts t wf range p ∙ from_lowest_to_highest t wf range p)
 
+-- ---- on a table by its number
+
+judged_on_table : JudgedOnTable
+judged_on_table n s =
+    record {
+      of_other_bytes = λ other. of_other_bytes other (unknown_table n) refl;
+      unknown = λ bytes e. rw (e, eq-eqb (length s) question_bytes bytes) refl;
+      named = λ e. rw e refl;
+    }
+  where
+    of_other_bytes : (length s ≡ question_bytes → ⊥) → (v : Bool) → unknown_table n ≡ v → judged_by (terms_on n) s ≡ none_shown wrong_length
+    of_other_bytes other true e = rw (e, ne_eqb (length s) question_bytes other) refl
+    of_other_bytes other false e = rw e (other_bytes (ladder_named n) five_percent s other)
+
+pub usual : (s : List ℕ) → judged_by (terms_on usual_table) s ≡ judged usual_ladder five_percent s
+usual s = (judged_on_table usual_table s).named table_laws.usual_is_named
+
+any_order_price_on : AnyOrderPriceOn
+any_order_price_on n s u ns nu same h = go (unknown_table n) refl
+  where
+    go : (v : Bool) → unknown_table n ≡ v → SameRange (table_named n) (judged_by (terms_on n) s) (judged_by (terms_on n) u) (price_of u)
+    go true e = absurd (rw ((judged_on_table n s).unknown ns e) at h)
+    go false e =
+        let of_s = (judged_on_table n s).named e in
+        let of_u = (judged_on_table n u).named e in
+        let wf = (table_laws.named_tables n).well_formed_lem e in
+        rw (of_s, of_u) (any_order_price (table_named n) wf five_percent s u ns nu same (rw of_s at h))
+
 -- ---- numbers
 
 -- 0 or 2 to 10, by every reading
@@ -199,4 +232,12 @@ question_numbers l percent s =
 -- ---- all of them
 
 pub judging_laws : JudgingLaws
-judging_laws = record { shown_is_exactly = shown_is_exactly; range_or_none = range_or_none; any_order_price = any_order_price; question_numbers = question_numbers }
+judging_laws =
+    record {
+      shown_is_exactly = shown_is_exactly;
+      range_or_none = range_or_none;
+      any_order_price = any_order_price;
+      judged_on_table = judged_on_table;
+      any_order_price_on = any_order_price_on;
+      question_numbers = question_numbers;
+    }

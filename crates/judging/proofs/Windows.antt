@@ -6,7 +6,7 @@ use native.Mathlib.Omega.{arith}
 use mathlib.Core.Bool.{Bool, ◌&&◌}
 use lib.Dec.{T, leb, leb→le, le→leb}
 use Rattle.facts.proofs.Tests.{and_left, and_right, and_both, same}
-use Rattle.ladder.specs.Bands.{Table, well_formed}
+use Rattle.tables.specs.Bands.{Table, well_formed}
 use Rattle.ladder.specs.Ladder.{ladder, is_ladder_price}
 use Rattle.ladder.specs.Search.{first, latest, or_else, at_least, at_most}
 use Rattle.ladder.specs.Laws.{Extreme, Least, Greatest, NonePasses, Finds}

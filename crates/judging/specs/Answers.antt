@@ -1,10 +1,11 @@
 -- The answer to a question: number, lowest and highest. Document 01, "Question and answer" and "Why a question comes back".
-use Rattle.std.specs.Prelude.{ℕ, List, ◌++◌, codes, decimal, Option, Some, None, Ok, Err}
+use Rattle.std.specs.Prelude.{ℕ, List, ◌++◌, cond, eqb, length, codes, decimal, Option, Some, None, Ok, Err}
 use Rattle.ladder.specs.Ladder.{Prices}
 use Rattle.limits.specs.declared.Percentage.{Percentage}
+use Rattle.limits.specs.Terms.{Found, bad_terms_number}
 use Rattle.questions.specs.declared.Question.{Question}
 use Rattle.little_endian.specs.Numbers.{Bytes}
-use Rattle.questions.specs.Record.{decoded}
+use Rattle.questions.specs.Record.{question_bytes, decoded}
 use Rattle.ranges.specs.declared.Range.{Range}
 use Rattle.ranges.specs.declared.Refusal.{Refusal}
 use Rattle.ranges.specs.Readings.{Reading, reading_of}
@@ -44,6 +45,11 @@ answer_decoded l percent None = none_shown wrong_length
 
 unfoldable pub judged : Prices → Percentage → Bytes → Answer
 judged l percent s = answer_decoded l percent (decoded s)
+
+-- the answer to a question as bytes for a call that names a table, by what there is to work by: "14 .., checked after 1 and before 2", with 0 and 0
+abbrev pub judged_by : Found → Bytes → Answer
+judged_by (Ok basis) s = judged basis.prices basis.percentage s
+judged_by (Err bad) s = none_shown (cond (eqb (length s) question_bytes) (bad_terms_number bad) wrong_length)
 
 -- an answer in print: its numbers in decimal, with single blanks
 abbrev pub answer_text : Answer → List ℕ

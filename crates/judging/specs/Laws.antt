@@ -1,16 +1,20 @@
 -- The laws of judging. Each is a field of the record JudgingLaws at the end, which proofs/Laws.antt proves as judging_laws: AnyOrderPrice is
 -- the field any_order_price.
-use Rattle.std.specs.Prelude.{◌⊎◌, ◌≡◌, ℕ, ◌+◌, ◌≤◌, ◌<◌, Bool, ◌&&◌, ◌||◌, T, eqb, leb, length, get_or}
-use Rattle.ladder.specs.Bands.{Table, well_formed}
+use Rattle.std.specs.Prelude.{◌⊎◌, ◌≡◌, ℕ, ◌+◌, ◌≤◌, ◌<◌, Bool, true, false, ◌&&◌, ◌||◌, T, eqb, leb, length, get_or}
+use Rattle.tables.specs.Bands.{Table, well_formed}
+use Rattle.tables.specs.Named.{table_named, unknown_table}
 use Rattle.ladder.specs.Ladder.{Prices, ladder, is_ladder_price}
+use Rattle.ladder.specs.Named.{ladder_named}
 use Rattle.limits.specs.declared.Percentage.{Percentage}
+use Rattle.limits.specs.Limits.{five_percent}
+use Rattle.limits.specs.Terms.{terms_on}
 use Rattle.little_endian.specs.Numbers.{Bytes}
 use Rattle.questions.specs.Record.{question_bytes, price_byte, price_of}
 use Rattle.ranges.specs.declared.Range.{Range}
 use Rattle.judging.specs.declared.Answer.{Answer}
 use Rattle.judging.specs.Shown.{is_shown, shown_of}
 use Rattle.judging.specs.Numbers.{wrong_length}
-use Rattle.judging.specs.Answers.{none_shown, judged}
+use Rattle.judging.specs.Answers.{none_shown, judged, judged_by}
 
 -- The shown range is exactly the ladder prices that are in the permitted range and pass the nine-fold rule: a ladder price is one of
 -- these where it lies from the lowest shown to the highest shown, and only there. Where 0 and 0 are shown there is none.
@@ -59,6 +63,27 @@ AnyOrderPrice =
     SameButPrice s u → T (not_refused (judged (ladder t) percent s).number) →
     SameRange t (judged (ladder t) percent s) (judged (ladder t) percent u) (price_of u)
 
+-- ---- on a table by its number
+
+-- A question to a call that names a table: 1 comes first, then 14 with 0 and 0 by a number that names none; else it is judged over that table,
+-- at 5 percent.
+pub record OnTable (n : ℕ) (s : Bytes) : Type 0 where
+  pub of_other_bytes : (length s ≡ question_bytes → ⊥) → judged_by (terms_on n) s ≡ none_shown wrong_length
+  pub unknown : length s ≡ question_bytes → unknown_table n ≡ true → judged_by (terms_on n) s ≡ none_shown 14
+  pub named : unknown_table n ≡ false → judged_by (terms_on n) s ≡ judged (ladder_named n) five_percent s
+
+abbrev pub JudgedOnTable : Type 0
+JudgedOnTable = (n : ℕ) (s : Bytes) → OnTable n s
+
+-- Demand 3d on the table that a number names.
+abbrev pub AnyOrderPriceOn : Type 0
+AnyOrderPriceOn =
+    (n : ℕ) (s u : Bytes) → length s ≡ question_bytes → length u ≡ question_bytes → SameButPrice s u →
+    T (not_refused (judged_by (terms_on n) s).number) →
+    SameRange (table_named n) (judged_by (terms_on n) s) (judged_by (terms_on n) u) (price_of u)
+
+-- ---- numbers
+
 -- 0 and 2 to 10; 1 to 5
 abbrev pub is_question_number : ℕ → Bool
 is_question_number n = eqb n 0 || leb 2 n && leb n 10
@@ -81,4 +106,6 @@ pub record JudgingLaws : Type 0 where
   pub shown_is_exactly : ShownIsExactly
   pub range_or_none : RangeOrNone
   pub any_order_price : AnyOrderPrice
+  pub judged_on_table : JudgedOnTable
+  pub any_order_price_on : AnyOrderPriceOn
   pub question_numbers : QuestionNumbers

@@ -1,15 +1,16 @@
 // A refusal or a verdict as its number, and the answers.
 ghost use Rattle.std.specs.Prelude.{◌≡◌, Some};
 ghost use Rattle.ladder.specs.Layout.{prices_of};
+ghost use Rattle.limits.specs.Terms.{basis_found};
 ghost use Rattle.judging.specs.Verdicts.{verdict_of};
 ghost use Rattle.judging.specs.Numbers.{refusal_number, verdict_number};
-ghost use Rattle.judging.specs.Answers.{none_shown, refused_answer, answer_with, answer_on, judged, answer_text};
+ghost use Rattle.judging.specs.Answers.{none_shown, refused_answer, answer_with, answer_on, judged, judged_by, answer_text};
 
 use super::permitted::Permitted;
 use super::{Answer, Shown, Verdict, showing, verdicts};
 use ladder::table::SpreadTable;
-use limits::terms::Terms;
-use questions::decoding;
+use limits::terms::{BadTerms, Terms};
+use questions::{QUESTION_BYTES, decoding};
 use ranges::{Range, Refusal, readings};
 use std::fmt;
 
@@ -96,4 +97,15 @@ pub fn judge(terms: &Terms, question: &[u8]) -> Answer
         range,
     };
     permitted.answer(asked.price)
+}
+
+// The answer to a question as bytes, for a call that names its terms. That they are bad comes after 1.
+pub fn judge_by(found: &Result<Terms, BadTerms>, question: &[u8]) -> Answer
+    ensures { result ≡ judged_by (basis_found found.now) question.now }
+{
+    match found {
+        Ok(terms) => judge(terms, question),
+        Err(bad) if question.len() == QUESTION_BYTES => none_shown(bad.number()),
+        Err(_) => none_shown(WRONG_LENGTH),
+    }
 }

@@ -1,7 +1,7 @@
 // Judging a question: its reading, the verdict on its order price, and the answer.
 //
-// The calls of this file use the Phase 1 table and 5 percent. Functions of `showing`, `verdicts` and `answers` that are lent a
-// table or terms hold for every well-formed table and any percentage. Prices are whole mils.
+// The calls of this file are at 5 percent: `judge_on` uses the table that a number names, `judge` that of the calls that name none. Functions of
+// `showing`, `verdicts` and `answers` that are lent a table or terms hold for every well-formed table and any percentage. Prices are whole mils.
 #![tactic(auto)]
 
 pub mod showing; // showing.rt: the nine-fold rule and the shown range
@@ -10,16 +10,13 @@ pub mod answers; // answers.rt: a refusal or a verdict as its number, and the an
 mod permitted; // permitted.rt: a range that a reading permits
 
 ghost use Rattle.std.specs.Prelude.{◌≡◌};
-ghost use Rattle.ladder.specs.Bands.{phase1};
-ghost use Rattle.ladder.specs.Ladder.{ladder};
+ghost use Rattle.ladder.specs.Named.{usual_ladder};
 ghost use Rattle.limits.specs.Limits.{five_percent};
-ghost use Rattle.ranges.specs.Readings.{reading_of};
-ghost use Rattle.judging.specs.Answers.{answer_on, judged};
+ghost use Rattle.limits.specs.Terms.{terms_on};
+ghost use Rattle.judging.specs.Answers.{judged, judged_by};
 
-use ladder::table::phase_1;
-use limits::terms::usual;
-use questions::{Codes, References};
-use ranges::{Range, Reading, readings};
+use limits::terms::terms_on;
+use tables::USUAL_TABLE;
 
 // The range that is shown: its lowest and highest price, or 0 and 0 where no price is left.
 #[derive(Clone, Copy, Debug, PartialEq, Eq)]
@@ -53,23 +50,18 @@ pub struct Answer {
     pub highest: u32,
 }
 
-// The reading of a question: its permitted range with its nine-fold reference, or why it has none.
-pub fn reading_of(codes: Codes, references: References) -> Reading
-    ensures { result ≡ reading_of (ladder phase1) five_percent codes references }
+// The answer to a question of 40 bytes on the table that a number names; 14, with 0 and 0, where it names none. To any other number of bytes 1,
+// with 0 and 0.
+pub fn judge_on(table: u32, question: &[u8]) -> Answer
+    ensures { result ≡ judged_by (terms_on table) question.now }
 {
-    readings::reading_of(&usual(), codes, references)
-}
-
-// The answer to a price against a range: 0 or 6 to 10, with the range shown. The range may be any.
-pub fn answer_on(range: Range, price: u32) -> Answer
-    ensures { result ≡ answer_on (ladder phase1) range price }
-{
-    answers::answer_on(&phase_1(), range, price)
+    answers::judge_by(&terms_on(table), question)
 }
 
 // The answer to a question of 40 bytes; to any other number of bytes 1, with 0 and 0.
+#[tactic(auto, using(crate::proofs::Laws::usual))]
 pub fn judge(question: &[u8]) -> Answer
-    ensures { result ≡ judged (ladder phase1) five_percent question.now }
+    ensures { result ≡ judged usual_ladder five_percent question.now }
 {
-    answers::judge(&usual(), question)
+    judge_on(USUAL_TABLE, question)
 }

@@ -1,5 +1,5 @@
 -- The laws of specs/Laws.antt, proved. Other crates see them as fields of ladder_laws, and nothing else of this folder.
-use Rattle.std.specs.Prelude.{Option, Some, None}
+use Rattle.std.specs.Prelude.{[], Option, Some, None}
 use mathlib.Core.Path.{◌≡◌, refl, ap, sym, ◌∙◌}
 use Prim.Native.Nat.{ℕ, ◌+◌, ◌-◌, ◌≤◌, ◌<◌}
 use native.Mathlib.Nat.{zero-add, le_refl, le_trans}
@@ -9,16 +9,19 @@ use mathlib.Core.List.{List}
 use lib.Dec.{T, ltb→lt, lt→ltb}
 use lib.ListN.{length}
 use Rattle.facts.specs.Lists.{holds}
-use Rattle.ladder.specs.declared.Band.{Band}
-use Rattle.ladder.specs.Bands.{phase1, chained, well_formed}
+use Rattle.tables.specs.declared.Band.{Band}
+use Rattle.tables.specs.Bands.{well_formed}
+use Rattle.tables.specs.Named.{before_phase1, phase1, phase2, table_named}
 use Rattle.ladder.specs.Ladder.{rungs, band_prices, ladder, is_ladder_price}
 use Rattle.ladder.specs.Search.{first, latest_after, latest, above, below}
-use Rattle.ladder.specs.Places.{price_at, place_of, last_after, first_price, last_price, is_outside}
+use Rattle.ladder.specs.Places.{price_at, place_from, place_of, last_after, first_price, last_price, is_outside}
 use Rattle.ladder.specs.Spreads.{spread_up, spread_down, times, if_within}
-use Rattle.ladder.specs.Laws.{ThePhase1Table, TheLadder, LadderRises, EndsAreTheTables, NeverZero, PlacesAreInverse}
+use Rattle.ladder.specs.Laws.{TheTables, SameEnds, Nothing, NothingOnUnknown, TheLadder, LadderRises, EndsAreTheTables, NeverZero, PlacesAreInverse}
 use Rattle.ladder.specs.Laws.{Extreme, Least, Greatest, NonePasses, Finds, FirstIsSmallest, LatestIsLargest}
-use Rattle.ladder.specs.Laws.{SpreadUpIsNext, SpreadDownIsPrevious, FirstToTheNearest, SpreadsStay, OnlyWithinTheEnds, NothingWithoutALadder, NThenM, GoingByPlaces, UpThenDown}
+use Rattle.ladder.specs.Laws.{SpreadUpIsNext, SpreadDownIsPrevious, FirstToTheNearest, SpreadsStay, OnlyWithinTheEnds, NThenM, GoingByPlaces, UpThenDown}
 use Rattle.ladder.specs.Laws.{SpreadsKeepOrder, RoundingKeepsOrder, LadderLaws}
+use Rattle.tables.proofs.Laws.{table_laws}
+use Rattle.ladder.proofs.ByNumber.{none}
 use Rattle.ladder.proofs.Lists.Ends.{over_first, under_last, first_held, last_held, Within, within, not_outside, held_within}
 use Rattle.ladder.proofs.Lists.Entries.{at_place, past, entry_held, held_entry, place_of_entry, place_off, entry_of_place}
 use Rattle.ladder.proofs.Lists.Extremes.{Best, NonePass, FoundIs, result_is, result_none, least_one, greatest_one, first_result, latest_result}
@@ -29,10 +32,31 @@ use Rattle.ladder.proofs.Lists.Order.{spreads_up_order, spreads_down_order, at_l
 use Rattle.ladder.proofs.Tables.Table.{start, start_held, table_facts, first_is_start, last_is_top, ladder_rises as rises}
 use Rattle.ladder.proofs.Tables.Members.{the_members}
 
--- tested once, by computation
-the_phase1_table : ThePhase1Table
-unfolding phase1 well_formed chained ladder band_prices rungs price_at last_after
-the_phase1_table = record { well_formed_lem = tt; prices = refl; first_place = refl; last_place = refl; no_more = refl; first_price_lem = refl; last_price_lem = refl }
+-- counted once for each table, by computation
+the_tables : TheTables
+unfolding table_named before_phase1 phase1 phase2 ladder band_prices rungs price_at
+the_tables =
+    record {
+      before_phase1_lem = record { prices = refl; first_place = refl; last_place = refl; no_more = refl };
+      phase1_lem = record { prices = refl; first_place = refl; last_place = refl; no_more = refl };
+      phase2_lem = record { prices = refl; first_place = refl; last_place = refl; no_more = refl };
+    }
+
+nothing : Nothing []
+unfolding is_outside price_at place_from first latest_after
+nothing =
+    record {
+      outside = λ p. refl;
+      no_up = λ p n. refl;
+      no_down = λ p n. refl;
+      no_place = λ p. refl;
+      no_price = λ k. refl;
+      no_first = λ test. refl;
+      no_latest = λ test. refl;
+    }
+
+nothing_on_unknown : NothingOnUnknown
+nothing_on_unknown n unknown = rw (← none n (sym unknown)) nothing
 
 -- ---- the list
 
@@ -63,6 +87,12 @@ ends_are_the_tables t wf =
       within = λ p w. let r = within (ladder t) p w in (r.low, r.high);
       not_outside = λ p low high. not_outside (ladder t) (start t) p (start_held t wf) (record { low = low; high = high });
     }
+
+same_ends : SameEnds
+same_ends n known =
+    let ends = ends_are_the_tables (table_named n) ((table_laws.named_tables n).well_formed_lem known) in
+    let edges = table_laws.same_edges n known in
+    record { from_first = ends.first_is_bottom ∙ edges.first_bottom; to_last = ends.last_is_top ∙ edges.last_top }
 
 never_zero : NeverZero
 never_zero t wf p w = omega (arith, (within (ladder t) p w).low, first_is_start t wf, (table_facts t wf).positive)
@@ -217,10 +247,6 @@ only_within_the_ends p l number =
     nothing true h i = h
     nothing false h i = absurd (grind arith)
 
-nothing_without_a_ladder : NothingWithoutALadder
-unfolding is_outside
-nothing_without_a_ladder p number = refl
-
 -- n steps and then m, for any step that stays within the ends
 adds : (l : List ℕ) (step : ℕ → ℕ) → ((p : ℕ) → is_outside p l ≡ false → is_outside (step p) l ≡ false) → (n m p q : ℕ) →
     if_within p l (times n step p) ≡ Some q → if_within q l (times m step q) ≡ if_within p l (times (n + m) step p)
@@ -267,7 +293,9 @@ rounding_keeps_order t wf scale y z m =
 pub ladder_laws : LadderLaws
 ladder_laws =
     record {
-      the_phase1_table = the_phase1_table;
+      the_tables = the_tables;
+      same_ends = same_ends;
+      nothing_on_unknown = nothing_on_unknown;
       the_ladder = the_ladder;
       ladder_rises = ladder_rises;
       ends_are_the_tables = ends_are_the_tables;
@@ -280,7 +308,6 @@ ladder_laws =
       first_to_the_nearest = first_to_the_nearest;
       spreads_stay = spreads_stay;
       only_within_the_ends = only_within_the_ends;
-      nothing_without_a_ladder = nothing_without_a_ladder;
       n_then_m = n_then_m;
       going_by_places = going_by_places;
       up_then_down = up_then_down;

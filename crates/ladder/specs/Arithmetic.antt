@@ -4,7 +4,7 @@ use Rattle.std.specs.Prelude.{◌≡◌, ℕ, zero, suc, ◌+◌, ◌-◌, ◌*�
 use Rattle.ladder.specs.declared.turns.Turn.{Turn}
 use Rattle.ladder.specs.declared.turns.Turn.TheVariants.{Ends, Leaves}
 use Rattle.ladder.specs.declared.rounding.Gap.{Gap}
-use Rattle.ladder.specs.Bands.{Table, no_band}
+use Rattle.tables.specs.Bands.{Table, no_band}
 use Rattle.ladder.specs.Ladder.{width, ladder}
 use Rattle.facts.specs.Lists.{holds}
 use Rattle.ladder.specs.Search.{first, latest, at_least, at_most}

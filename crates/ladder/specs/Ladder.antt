@@ -1,7 +1,7 @@
 -- The ladder of a table: the rising list of all its prices; and a ladder price in the words of document 01, "The ladder".
 use Rattle.std.specs.Prelude.{ℕ, zero, suc, ◌+◌, ◌-◌, ◌/◌, ◌%◌, Bool, false, ◌&&◌, ◌||◌, List, [], ◌∷◌, ◌++◌, eqb, ltb, leb}
-use Rattle.ladder.specs.declared.Band.{Band}
-use Rattle.ladder.specs.Bands.{Table}
+use Rattle.tables.specs.declared.Band.{Band}
+use Rattle.tables.specs.Bands.{Table}
 
 -- prices of a ladder, from the first to the last
 abbrev pub Prices : Type 0

@@ -1,25 +1,53 @@
 -- The laws of the ladder, over any well-formed table, in the order in which a reader meets the notions: table, list, places, searches, spreads,
 -- order. Each is a field of the record LadderLaws at the end, which proofs/Laws.antt proves as ladder_laws: TheLadder is the field the_ladder.
 -- That band arithmetic ends where the plain count ends is not a law in this list: it is what the contracts of the calls say.
-use Rattle.std.specs.Prelude.{◌≡◌, ℕ, suc, ◌+◌, ◌-◌, min, ◌≤◌, ◌<◌, Bool, true, false, [], T, length, get_or, Option, Some, None}
+use Rattle.std.specs.Prelude.{◌≡◌, ℕ, suc, ◌+◌, ◌-◌, min, ◌≤◌, ◌<◌, Bool, true, false, T, length, get_or, Option, Some, None}
 use Rattle.facts.specs.Lists.{holds, Rising}
-use Rattle.ladder.specs.Bands.{Table, no_band, phase1, well_formed}
+use Rattle.tables.specs.Bands.{Table, no_band, well_formed}
+use Rattle.tables.specs.Named.{phase1, table_named, unknown_table}
 use Rattle.ladder.specs.Ladder.{Prices, ladder, is_ladder_price}
+use Rattle.ladder.specs.Named.{ladder_named}
 use Rattle.ladder.specs.Search.{first, latest, or_else, above, below, at_least, at_most}
 use Rattle.ladder.specs.Places.{price_at, place_of, first_price, last_price, is_outside}
 use Rattle.ladder.specs.Spreads.{spread_up, spread_down, times, if_within, spreads_up, spreads_down}
 
--- ---- the Phase 1 table
+-- ---- the named tables
 
--- The Phase 1 table is well formed and has 11,740 prices, with places 0 (0.010) to 11,739 (9,995.000).
-pub record ThePhase1Table : Type 0 where
-  pub well_formed_lem : T (well_formed phase1)
-  pub prices : length (ladder phase1) ≡ 11740
-  pub first_place : price_at 0 (ladder phase1) ≡ Some 10
-  pub last_place : price_at 11739 (ladder phase1) ≡ Some 9995000
-  pub no_more : price_at 11740 (ladder phase1) ≡ None
-  pub first_price_lem : first_price (ladder phase1) ≡ 10
-  pub last_price_lem : last_price (ladder phase1) ≡ 9995000
+-- What is computed of a table: how many prices it has, with places 0 (0.010) to the last (9,995.000).
+pub record Counted (t : Table) (count : ℕ) : Type 0 where
+  pub prices : length (ladder t) ≡ count
+  pub first_place : price_at 0 (ladder t) ≡ Some 10
+  pub last_place : price_at (count - 1) (ladder t) ≡ Some 9995000
+  pub no_more : price_at count (ladder t) ≡ None
+
+-- "1 the table before Phase 1 (.. 10,340 prices), 2 Phase 1, 3 Phase 2 (.. 12,690 prices)"; Phase 1 has 11,740. That each is well formed is the
+-- law NamedTables (crates/tables/specs/Laws.antt).
+pub record TheTables : Type 0 where
+  pub before_phase1_lem : Counted (table_named 1) 10340
+  pub phase1_lem : Counted (table_named 2) 11740
+  pub phase2_lem : Counted (table_named 3) 12690
+
+-- Whichever table a number names, its ladder goes from 0.010 to 9,995.000.
+pub record FromTo (l : Prices) (first last : ℕ) : Type 0 where
+  pub from_first : first_price l ≡ first
+  pub to_last : last_price l ≡ last
+
+abbrev pub SameEnds : Type 0
+SameEnds = (n : ℕ) → unknown_table n ≡ false → FromTo (ladder_named n) 10 9995000
+
+-- On the ladder of a number that names no table nothing is found: no price lies within the ends, and from none is there a step; none has a place, no
+-- place a price, and no price passes a test.
+pub record Nothing (l : Prices) : Type 0 where
+  pub outside : (p : ℕ) → is_outside p l ≡ true
+  pub no_up : (p n : ℕ) → spreads_up l p n ≡ None
+  pub no_down : (p n : ℕ) → spreads_down l p n ≡ None
+  pub no_place : (p : ℕ) → place_of p l ≡ None
+  pub no_price : (k : ℕ) → price_at k l ≡ None
+  pub no_first : (test : ℕ → Bool) → first test l ≡ None
+  pub no_latest : (test : ℕ → Bool) → latest test l ≡ None
+
+abbrev pub NothingOnUnknown : Type 0
+NothingOnUnknown = (n : ℕ) → unknown_table n ≡ true → Nothing (ladder_named n)
 
 -- ---- the list of prices
 
@@ -149,10 +177,6 @@ pub record Answers (p : ℕ) (l : Prices) (number : ℕ) : Type 0 where
 abbrev pub OnlyWithinTheEnds : Type 0
 OnlyWithinTheEnds = (p : ℕ) (l : Prices) (number : ℕ) → Answers p l number
 
--- Where a ladder has no price, no step and no limit is answered, whatever the price it is asked from.
-abbrev pub NothingWithoutALadder : Type 0
-NothingWithoutALadder = (p number : ℕ) → if_within p [] number ≡ None
-
 -- n spreads, and then m from where they end, are n + m spreads: up, and down.
 pub record Adds (t : Table) (n m p q : ℕ) : Type 0 where
   pub up : spreads_up (ladder t) p n ≡ Some q → spreads_up (ladder t) q m ≡ spreads_up (ladder t) p (n + m)
@@ -197,7 +221,9 @@ RoundingKeepsOrder = (t : Table) → T (well_formed t) → (scale y z : ℕ) →
 -- ---- all of them
 
 pub record LadderLaws : Type 0 where
-  pub the_phase1_table : ThePhase1Table
+  pub the_tables : TheTables
+  pub same_ends : SameEnds
+  pub nothing_on_unknown : NothingOnUnknown
   pub the_ladder : TheLadder
   pub ladder_rises : LadderRises
   pub ends_are_the_tables : EndsAreTheTables
@@ -210,7 +236,6 @@ pub record LadderLaws : Type 0 where
   pub first_to_the_nearest : FirstToTheNearest
   pub spreads_stay : SpreadsStay
   pub only_within_the_ends : OnlyWithinTheEnds
-  pub nothing_without_a_ladder : NothingWithoutALadder
   pub n_then_m : NThenM
   pub going_by_places : GoingByPlaces
   pub up_then_down : UpThenDown

@@ -1,4 +1,5 @@
--- What the ladder means, to be read in this order. A reader who believes these files, and the contracts that cite them, needs no proof.
+-- What the ladder means, to be read in this order, after crates/tables/specs. A reader who believes these files, and the contracts that cite
+-- them, needs no proof.
 --
 -- Document 01 is the customer's paper on spreads and limits; words in quotation marks are its own.
 --
@@ -13,11 +14,11 @@
 -- function returns.
 -- `abbrev` and `unfoldable` only tell the prover when to open a definition, and a `let` keeps a search from computing on when it has
 -- found something.
-pub mod Bands
 pub mod Ladder
 pub mod Search
 pub mod Places
 pub mod Spreads
+pub mod Named
 pub mod Layout
 pub mod Laws
 pub mod Arithmetic

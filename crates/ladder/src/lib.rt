@@ -1,7 +1,8 @@
 // The price ladder of a spread table: places, spreads and rounding, by band arithmetic.
 //
-// The calls of this file use the Phase 1 table. A `SpreadTable` has the same calls as methods; their contracts hold for every table that
-// is well formed, as each is by its type. Prices are whole mils.
+// Of each call there are two: `up_on` and so on use the table that a number names, and answer nothing where it names none; `up` and so on use the
+// table of the calls that name none. A `SpreadTable` has the same calls as methods; their contracts hold for every table that is well formed, as
+// each is by its type. Prices are whole mils.
 #![tactic(auto)]
 
 mod search; // search.rt: the band where a threshold lands, and that of a price
@@ -12,63 +13,104 @@ mod steps; // steps.rt: n spreads up and down
 mod rounding; // rounding.rt: the ladder prices next to a threshold
 mod ends; // ends.rt: the first and the last price, and what is outside them
 pub mod numbers; // numbers.rt: products that do not wrap
-pub mod table; // table.rt: spread tables, and that of Phase 1
+pub mod table; // table.rt: spread tables
+pub mod named; // named.rt: the tables that a number names
 
 ghost use Rattle.std.specs.Prelude.{◌≡◌};
-ghost use Rattle.ladder.specs.Bands.{phase1};
-ghost use Rattle.ladder.specs.Ladder.{ladder};
+ghost use Rattle.ladder.specs.Named.{ladder_named, usual_ladder};
 ghost use Rattle.ladder.specs.Search.{first, latest, at_least, at_most};
 ghost use Rattle.ladder.specs.Places.{price_at, place_of};
 ghost use Rattle.ladder.specs.Spreads.{spreads_up, spreads_down};
 
-use table::phase_1;
+use named::table_of;
+use tables::USUAL_TABLE;
 
-// A band of a table: the prices over `bottom`, up to `top`, a `spread` apart.
-#[derive(Clone, Copy, Debug, PartialEq, Eq)]
-pub struct Band {
-    pub bottom: u32,
-    pub top: u32,
-    pub spread: u32,
+// The price at a place; none above the last place.
+#[tactic(auto, using(crate::proofs::ByNumber::none), unfolding(crate::specs::Places::price_at))]
+pub fn price_at_on(table: u32, place: u32) -> Option<u32>
+    ensures { result ≡ price_at place (ladder_named table) }
+{
+    table_of(table)?.price_at(place)
 }
 
-// The price at a place; none above the last place, 11,739.
+// The same on the usual table.
 pub fn price_at(place: u32) -> Option<u32>
-    ensures { result ≡ price_at place (ladder phase1) }
+    ensures { result ≡ price_at place usual_ladder }
 {
-    phase_1().price_at(place)
+    price_at_on(USUAL_TABLE, place)
 }
 
 // The place of a price; none for a price off the ladder.
-pub fn place_of(price: u32) -> Option<u32>
-    ensures { result ≡ place_of price (ladder phase1) }
+#[tactic(auto, using(crate::proofs::ByNumber::none), unfolding(crate::specs::Places::place_from))]
+pub fn place_of_on(table: u32, price: u32) -> Option<u32>
+    ensures { result ≡ place_of price (ladder_named table) }
 {
-    phase_1().place_of(price)
+    table_of(table)?.place_of(price)
+}
+
+// The same on the usual table.
+pub fn place_of(price: u32) -> Option<u32>
+    ensures { result ≡ place_of price usual_ladder }
+{
+    place_of_on(USUAL_TABLE, price)
 }
 
 // The price n spreads up, halting at the last; none from a price outside the ends.
-pub fn up(price: u32, n: u64) -> Option<u32>
-    ensures { result ≡ spreads_up (ladder phase1) price n }
+#[tactic(auto, using(crate::proofs::ByNumber::none), unfolding(crate::specs::Places::is_outside))]
+pub fn up_on(table: u32, price: u32, n: u64) -> Option<u32>
+    ensures { result ≡ spreads_up (ladder_named table) price n }
 {
-    phase_1().up(price, n)
+    table_of(table)?.up(price, n)
+}
+
+// The same on the usual table.
+pub fn up(price: u32, n: u64) -> Option<u32>
+    ensures { result ≡ spreads_up usual_ladder price n }
+{
+    up_on(USUAL_TABLE, price, n)
 }
 
 // The price n spreads down, halting at the first; none from a price outside the ends.
-pub fn down(price: u32, n: u64) -> Option<u32>
-    ensures { result ≡ spreads_down (ladder phase1) price n }
+#[tactic(auto, using(crate::proofs::ByNumber::none), unfolding(crate::specs::Places::is_outside))]
+pub fn down_on(table: u32, price: u32, n: u64) -> Option<u32>
+    ensures { result ≡ spreads_down (ladder_named table) price n }
 {
-    phase_1().down(price, n)
+    table_of(table)?.down(price, n)
+}
+
+// The same on the usual table.
+pub fn down(price: u32, n: u64) -> Option<u32>
+    ensures { result ≡ spreads_down usual_ladder price n }
+{
+    down_on(USUAL_TABLE, price, n)
 }
 
 // The smallest ladder price q with scale * q at least y; none where there is none.
-pub fn at_least(scale: u32, y: u64) -> Option<u32>
-    ensures { result ≡ first (at_least scale y) (ladder phase1) }
+#[tactic(auto, using(crate::proofs::ByNumber::none), unfolding(crate::specs::Search::first))]
+pub fn at_least_on(table: u32, scale: u32, y: u64) -> Option<u32>
+    ensures { result ≡ first (at_least scale y) (ladder_named table) }
 {
-    phase_1().at_least(scale, y)
+    table_of(table)?.at_least(scale, y)
+}
+
+// The same on the usual table.
+pub fn at_least(scale: u32, y: u64) -> Option<u32>
+    ensures { result ≡ first (at_least scale y) usual_ladder }
+{
+    at_least_on(USUAL_TABLE, scale, y)
 }
 
 // The largest ladder price q with scale * q at most y; none where there is none.
-pub fn at_most(scale: u32, y: u64) -> Option<u32>
-    ensures { result ≡ latest (at_most scale y) (ladder phase1) }
+#[tactic(auto, using(crate::proofs::ByNumber::none), unfolding(crate::specs::Search::latest_after))]
+pub fn at_most_on(table: u32, scale: u32, y: u64) -> Option<u32>
+    ensures { result ≡ latest (at_most scale y) (ladder_named table) }
 {
-    phase_1().at_most(scale, y)
+    table_of(table)?.at_most(scale, y)
+}
+
+// The same on the usual table.
+pub fn at_most(scale: u32, y: u64) -> Option<u32>
+    ensures { result ≡ latest (at_most scale y) usual_ladder }
+{
+    at_most_on(USUAL_TABLE, scale, y)
 }

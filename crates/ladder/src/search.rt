@@ -1,11 +1,11 @@
 // The one search for a band: where a threshold lands, in which band a price lies, and whether it stands on the ladder there.
 ghost use Rattle.std.specs.Prelude.{◌≡◌, ◌<◌, length, get_or};
-ghost use Rattle.ladder.specs.Bands.{no_band};
+ghost use Rattle.tables.specs.Bands.{no_band};
 ghost use Rattle.ladder.specs.Arithmetic.{bands_below, first_from, count_below, band_of, standing_of};
 
-use super::Band;
 use super::numbers::product;
 use super::table::SpreadTable;
+use tables::Band;
 
 // The index of the first band that does not end below y / scale.
 fn first_from(bands: &[Band], scale: u32, y: u64) -> Option<usize>

@@ -7,14 +7,17 @@ use native.Mathlib.Omega.{arith}
 use mathlib.Core.Bool.{false}
 use lib.Dec.{T, le→leb}
 use Rattle.facts.proofs.Numbers.{of_smaller, of_larger}
-use Rattle.ladder.specs.Bands.{Table, phase1}
-use Rattle.ladder.specs.Ladder.{ladder, is_ladder_price}
+use Rattle.tables.specs.Bands.{Table}
+use Rattle.tables.specs.Named.{table_named}
+use Rattle.ladder.specs.Named.{ladder_named}
+use Rattle.limits.proofs.ByNumber.{with_a_price}
+use Rattle.ladder.specs.Ladder.{Prices, ladder, is_ladder_price}
 use Rattle.ladder.specs.Search.{first, latest, or_else, at_least, at_most}
 use Rattle.ladder.specs.Places.{is_outside}
 use Rattle.ladder.specs.Spreads.{if_within}
 use Rattle.ladder.proofs.Laws.{ladder_laws}
 use Rattle.limits.specs.Limits.{limit_spreads, five_percent, lower_limit, upper_limit}
-use Rattle.limits.specs.Laws.{PercentageFinds, LimitsEnclose, LimitsAreOrdered, NoSmaller, HigherReference, LimitLaws}
+use Rattle.limits.specs.Laws.{PercentageFinds, LimitsEnclose, LimitsAreOrdered, NoSmaller, HigherReference, NoLimitOnUnknown, LimitLaws}
 
 -- a search that cannot find nothing finds a price
 finds : (f : Option ℕ) → (f ≡ None → ⊥) → (q : ℕ) × (f ≡ Some q)
@@ -74,24 +77,29 @@ limits_enclose t wf percent r w =
 -- ---- demand 3c
 
 -- a limit of two references, from the numbers that it has for them
-no_smaller : (limit : ℕ → ℕ) (p q : ℕ) → is_outside p (ladder phase1) ≡ false → is_outside q (ladder phase1) ≡ false → limit p ≤ limit q →
-    NoSmaller (λ r. if_within r (ladder phase1) (limit r)) p q
-no_smaller limit p q v w m =
+no_smaller : (l : Prices) (limit : ℕ → ℕ) (p q : ℕ) → is_outside p l ≡ false → is_outside q l ≡ false → limit p ≤ limit q →
+    NoSmaller (λ r. if_within r l (limit r)) p q
+no_smaller l limit p q v w m =
     record {
       of_p = limit p;
       of_q = limit q;
-      p_has = (ladder_laws.only_within_the_ends p (ladder phase1) (limit p)).within v;
-      q_has = (ladder_laws.only_within_the_ends q (ladder phase1) (limit q)).within w;
+      p_has = (ladder_laws.only_within_the_ends p l (limit p)).within v;
+      q_has = (ladder_laws.only_within_the_ends q l (limit q)).within w;
       ordered = m;
     }
 
 higher_reference : HigherReference
-higher_reference p q v w m =
-    let ordered = limits_are_ordered phase1 ladder_laws.the_phase1_table.well_formed_lem five_percent p q m in
+higher_reference n p q v w m =
+    let ordered = limits_are_ordered (table_named n) (with_a_price n p v) five_percent p q m in
     record {
-      lower = no_smaller (lower_limit (ladder phase1) five_percent) p q v w ordered.lower;
-      upper = no_smaller (upper_limit (ladder phase1) five_percent) p q v w ordered.upper;
+      lower = no_smaller (ladder_named n) (lower_limit (ladder_named n) five_percent) p q v w ordered.lower;
+      upper = no_smaller (ladder_named n) (upper_limit (ladder_named n) five_percent) p q v w ordered.upper;
     }
+
+no_limit_on_unknown : NoLimitOnUnknown
+no_limit_on_unknown n r unknown =
+    let outside = (ladder_laws.nothing_on_unknown n unknown).outside r in
+    record { no_lower = rw outside refl; no_upper = rw outside refl; no_percent_lower = rw outside refl; no_percent_upper = rw outside refl }
 
 pub limit_laws : LimitLaws
 limit_laws =
@@ -100,4 +108,5 @@ limit_laws =
       limits_enclose = limits_enclose;
       limits_are_ordered = limits_are_ordered;
       higher_reference = higher_reference;
+      no_limit_on_unknown = no_limit_on_unknown;
     }

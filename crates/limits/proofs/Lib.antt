@@ -1,2 +1,3 @@
+pub mod ByNumber
 -- Laws: what other crates see.
 pub mod Laws

@@ -1,12 +1,14 @@
 -- The laws of the limits. Each is a field of the record LimitLaws at the end, which proofs/Laws.antt proves as limit_laws: LimitsAreOrdered is
 -- the field limits_are_ordered.
-use Rattle.std.specs.Prelude.{◌≡◌, ℕ, ◌*◌, ◌≤◌, false, T, Option, Some}
-use Rattle.ladder.specs.Bands.{Table, phase1, well_formed}
-use Rattle.ladder.specs.Ladder.{ladder, is_ladder_price}
+use Rattle.std.specs.Prelude.{◌≡◌, ℕ, ◌*◌, ◌≤◌, true, false, T, Option, Some, None}
+use Rattle.tables.specs.Bands.{Table, well_formed}
+use Rattle.tables.specs.Named.{unknown_table}
+use Rattle.ladder.specs.Ladder.{Prices, ladder, is_ladder_price}
+use Rattle.ladder.specs.Named.{ladder_named}
 use Rattle.ladder.specs.Search.{first, latest, at_least, at_most}
 use Rattle.ladder.specs.Places.{is_outside}
 use Rattle.limits.specs.declared.Percentage.{Percentage}
-use Rattle.limits.specs.Limits.{five_percent, lower_limit, upper_limit, lower_limit_found, upper_limit_found}
+use Rattle.limits.specs.Limits.{five_percent, lower_limit, upper_limit, lower_limit_found, upper_limit_found, percent_lower_found, percent_upper_found}
 
 -- A percentage limit of a price within the ends always finds a price, where the percentage is taken off for the lower limit and added for the
 -- upper one, as at 5 percent: for the lower limit the last ladder price passes, for the upper the first. The end of the ladder stands in only at
@@ -44,13 +46,25 @@ pub record NoSmaller (limit : ℕ → Option ℕ) (p q : ℕ) : Type 0 where
   pub q_has : limit q ≡ Some of_q
   pub ordered : of_p ≤ of_q
 
--- Demand 3c, on Phase 1 at 5 percent: for every two prices within the ends as references, the higher never has a smaller lower or upper limit.
-pub record HigherHasNoSmaller (p q : ℕ) : Type 0 where
-  pub lower : NoSmaller (lower_limit_found (ladder phase1) five_percent) p q
-  pub upper : NoSmaller (upper_limit_found (ladder phase1) five_percent) p q
+-- Demand 3c at 5 percent, on the table that a number names: for every two prices within the ends as references, the higher never has a smaller
+-- lower or upper limit. (By a number that names no table no price is within the ends: ladder law NothingOnUnknown.)
+pub record HigherHasNoSmaller (n p q : ℕ) : Type 0 where
+  pub lower : NoSmaller (lower_limit_found (ladder_named n) five_percent) p q
+  pub upper : NoSmaller (upper_limit_found (ladder_named n) five_percent) p q
 
 abbrev pub HigherReference : Type 0
-HigherReference = (p q : ℕ) → is_outside p (ladder phase1) ≡ false → is_outside q (ladder phase1) ≡ false → p ≤ q → HigherHasNoSmaller p q
+HigherReference =
+    (n p q : ℕ) → is_outside p (ladder_named n) ≡ false → is_outside q (ladder_named n) ≡ false → p ≤ q → HigherHasNoSmaller n p q
+
+-- From no price is there a limit by a number that names no table.
+pub record NoLimit (l : Prices) (r : ℕ) : Type 0 where
+  pub no_lower : lower_limit_found l five_percent r ≡ None
+  pub no_upper : upper_limit_found l five_percent r ≡ None
+  pub no_percent_lower : percent_lower_found l five_percent r ≡ None
+  pub no_percent_upper : percent_upper_found l five_percent r ≡ None
+
+abbrev pub NoLimitOnUnknown : Type 0
+NoLimitOnUnknown = (n r : ℕ) → unknown_table n ≡ true → NoLimit (ladder_named n) r
 
 -- ---- all of them
 
@@ -59,3 +73,4 @@ pub record LimitLaws : Type 0 where
   pub limits_enclose : LimitsEnclose
   pub limits_are_ordered : LimitsAreOrdered
   pub higher_reference : HigherReference
+  pub no_limit_on_unknown : NoLimitOnUnknown

@@ -1,3 +1,4 @@
--- What the limits of a reference mean, and their laws.
+-- What the limits of a reference mean, what they are worked out by, and their laws.
 pub mod Limits
+pub mod Terms
 pub mod Laws

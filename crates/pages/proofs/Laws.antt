@@ -14,8 +14,8 @@ use Rattle.limits.specs.declared.Percentage.{Percentage}
 use Rattle.questions.specs.Record.{question_bytes, count_of, question_at}
 use Rattle.judging.specs.Answers.{judged}
 use Rattle.pages.specs.Lines.{line, lines_to, left_line, page}
-use Rattle.pages.specs.Pages.{page_refused}
-use Rattle.pages.specs.Laws.{PagesJoin, EmptyPage, StandsFrom, PageStands, PageLaws}
+use Rattle.pages.specs.Pages.{StandsFrom, page_refused}
+use Rattle.pages.specs.Laws.{PagesJoin, EmptyPage, PageStands, PageLaws}
 
 -- ---- pages join
 
@@ -64,7 +64,7 @@ empty_page l percent first = refl
 -- ---- where a page stands
 
 -- written at the end of a text, x stands there
-ends_with : (x text : Text) → StandsFrom (length text - length x) x (ending_at (length text) x text)
+pub ends_with : (x text : Text) → StandsFrom (length text - length x) x (ending_at (length text) x text)
 ends_with x text =
     record {
       inside =

@@ -1,13 +1,13 @@
 -- The laws of pages. Each is a field of the record PageLaws at the end, which proofs/Laws.antt proves as page_laws: PagesJoin is the field
 -- pages_join.
-use Rattle.std.specs.Prelude.{◌≡◌, ℕ, ◌+◌, ◌%◌, ◌≤◌, Some, [], ◌++◌, length, drop}
+use Rattle.std.specs.Prelude.{◌≡◌, ℕ, ◌+◌, ◌%◌, Some, [], ◌++◌, length}
 use Rattle.text.specs.Decimal.{Text}
 use Rattle.ladder.specs.Ladder.{Prices}
 use Rattle.limits.specs.declared.Percentage.{Percentage}
 use Rattle.little_endian.specs.Numbers.{Bytes}
 use Rattle.questions.specs.Record.{question_bytes, count_of}
 use Rattle.pages.specs.Lines.{page}
-use Rattle.pages.specs.Pages.{page_place, text_after}
+use Rattle.pages.specs.Pages.{StandsFrom, page_place, text_after}
 
 -- How the input is cut does not show: after whole questions, the page goes on with the next number.
 abbrev pub PagesJoin : Type 0
@@ -20,10 +20,6 @@ abbrev pub EmptyPage : Type 0
 EmptyPage = (l : Prices) (percent : Percentage) (first : ℕ) → page l percent first [] ≡ []
 
 -- Where the call answers `Some start`, the text from there to its end is the page, and nothing else.
-pub record StandsFrom (start : ℕ) (page text : Text) : Type 0 where
-  pub inside : start ≤ length text
-  pub is_page : drop start text ≡ page
-
 abbrev pub PageStands : Type 0
 PageStands =
     (l : Prices) (percent : Percentage) (first : ℕ) (s : Bytes) (text : Text) (start : ℕ) → page_place l percent first s text ≡ Some start →

@@ -3,6 +3,8 @@ use Rattle.std.specs.Prelude.{ℕ, zero, suc, ◌+◌, ◌%◌, [], ◌∷◌, �
 use Rattle.text.specs.Decimal.{Text, field}
 use Rattle.ladder.specs.Ladder.{Prices}
 use Rattle.limits.specs.declared.Percentage.{Percentage}
+use Rattle.limits.specs.declared.terms.BadTerms.{BadTerms}
+use Rattle.limits.specs.Terms.{bad_terms_number}
 use Rattle.little_endian.specs.Numbers.{Bytes}
 use Rattle.questions.specs.Record.{question_bytes, count_of, question_at}
 use Rattle.judging.specs.declared.Answer.{Answer}
@@ -32,3 +34,7 @@ left_line (suc k) = (108 ∷ 101 ∷ 102 ∷ 116 ∷ blank ∷ []) ++ field (suc
 -- all that is printed of the bytes s, if the first question has the number `first`
 abbrev pub page : Prices → Percentage → ℕ → Bytes → Text
 page l percent first s = lines_to l percent first (count_of (length s)) s ++ left_line (length s % question_bytes)
+
+-- "and pricecheck, for any other argument or more than one, prints only "14""
+abbrev pub refusal_line : BadTerms → Text
+refusal_line bad = field (bad_terms_number bad) newline

@@ -3,13 +3,13 @@ ghost use Rattle.std.specs.Prelude.{◌≡◌, ◌+◌, ◌*◌, ◌≤◌, ◌<
 ghost use Rattle.text.specs.Ending.{Written};
 ghost use Rattle.ladder.specs.Layout.{prices_of};
 ghost use Rattle.questions.specs.Record.{question_bytes};
-ghost use Rattle.pages.specs.Lines.{line, lines_to, left_line};
-ghost use Rattle.pages.specs.Pages.{line_room, left_room, page_count, page_place, text_after};
+ghost use Rattle.pages.specs.Lines.{line, lines_to, left_line, refusal_line};
+ghost use Rattle.pages.specs.Pages.{line_room, left_room, page_count, page_place, text_after, StandsFrom};
 
 use super::{LEFT_ROOM, LINE_ROOM};
 use judging::Answer;
 use judging::answers::judge as judge_question;
-use limits::terms::Terms;
+use limits::terms::{BadTerms, Terms};
 use questions::QUESTION_BYTES;
 use text::Filling;
 
@@ -66,8 +66,10 @@ fn count(first: u64, asked: usize, room: usize) -> Option<usize>
     (count <= most).then_some(count)
 }
 
-// Writes a page at the end of the text, and answers where it begins; none where it is refused.
-pub fn write(terms: &Terms, questions: &[u8], first: u64, text: &mut [u8]) -> Option<usize>
+// Writes the lines of all whole questions, the first with the number `first`, and "left k" for k bytes that are left over, at the end of
+// the text. Answers where they begin: none where the text has less than LINE_ROOM characters a question and LEFT_ROOM more, or where the
+// number after the last has more than 64 bits. Such a page is refused, and the text keeps every byte.
+pub fn write_page(terms: &Terms, questions: &[u8], first: u64, text: &mut [u8]) -> Option<usize>
     ensures place { result ≡ page_place (prices_of terms.now.table) terms.now.percentage first questions.now text.old }
     ensures text { text.new ≡ text_after (prices_of terms.now.table) terms.now.percentage first questions.now text.old }
 {
@@ -76,4 +78,15 @@ pub fn write(terms: &Terms, questions: &[u8], first: u64, text: &mut [u8]) -> Op
     put_left(&mut filling, questions.len() % QUESTION_BYTES);
     put_lines(terms, questions, count, first, &mut filling);
     Some(filling.start())
+}
+
+// Writes the line of why there is nothing to judge by at the end of the text. Answers where it begins.
+#[tactic(auto, using(crate::proofs::Lengths::price_fits, crate::proofs::Laws::ends_with))]
+pub fn write_refusal(bad: BadTerms, text: &mut [u8]) -> usize
+    requires { line_room ≤ length text.old }
+    ensures { StandsFrom result (refusal_line bad) text.new }
+{
+    let mut filling = Filling::new(text);
+    filling.put_field(u64::from(bad.number()), b'\n');
+    filling.start()
 }

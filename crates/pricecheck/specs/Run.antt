@@ -1,21 +1,26 @@
 -- What pricecheck prints, how it cuts its input, and what a run writes.
 use Rattle.std.specs.Prelude.{◌≡◌, ℕ, suc, ◌+◌, ◌*◌, Bool, true, false, not, ◌&&◌, cond, List, [], ◌∷◌, ◌++◌, eqb, min, Result, Ok, Err, length, take, drop}
 use Rattle.text.specs.Decimal.{Text}
-use Rattle.ladder.specs.Bands.{phase1}
-use Rattle.ladder.specs.Ladder.{ladder}
-use Rattle.limits.specs.Limits.{five_percent}
+use Rattle.limits.specs.Terms.{Basis, Found}
 use Rattle.little_endian.specs.Numbers.{Bytes}
 use Rattle.questions.specs.Record.{question_bytes, count_of}
-use Rattle.pages.specs.Lines.{page}
+use Rattle.pages.specs.Lines.{page, refusal_line}
 use Rattle.pages.specs.Pages.{line_room, left_room}
 
--- the lines of the bytes s, if the first question has the number `first`
-abbrev pub page_from : ℕ → Bytes → Text
-page_from first s = page (ladder phase1) five_percent first s
+-- the lines of the bytes s, if the first question has the number `first`, by the table of the run
+abbrev pub page_from : Basis → ℕ → Bytes → Text
+page_from basis first s = page basis.prices basis.percentage first s
 
 -- all that is printed of an input: "question number from 1"
-abbrev pub printed : Bytes → Text
-printed s = page_from 1 s
+abbrev pub printed : Basis → Bytes → Text
+printed basis s = page_from basis 1 s
+
+-- all that is printed, by the table that the arguments name and the input: where they name none, only the line that says so. A model of the
+-- program, as `run_from` below: what `print` and `print_refusal` require ties the program to it, and that `main` works by what `terms_named`
+-- answers is read and tested
+abbrev pub output : Found → Bytes → Text
+output (Ok basis) s = printed basis s
+output (Err bad) s = refusal_line bad
 
 -- a text that ends with a page
 pub record EndsWith (text lines : Text) : Type 0 where
@@ -59,7 +64,7 @@ goes_on written failed bytes = written && not failed && eqb bytes piece_bytes
 
 -- What came of a piece: bytes, and whether a read failed after them. What a run writes, piece after piece from piece k, if every write
 -- goes well: the page of what is answered, and then of the next piece, if it goes on.
-abbrev pub run_from : ℕ → List (Bytes × Bool) → Text
-run_from k [] = []
-run_from k ((s, failed) ∷ rest) =
-    page_from (first_of k) (answered_part failed (length s) s) ++ cond (goes_on true failed (length s)) (run_from (suc k) rest) []
+abbrev pub run_from : Basis → ℕ → List (Bytes × Bool) → Text
+run_from basis k [] = []
+run_from basis k ((s, failed) ∷ rest) =
+    page_from basis (first_of k) (answered_part failed (length s) s) ++ cond (goes_on true failed (length s)) (run_from basis (suc k) rest) []

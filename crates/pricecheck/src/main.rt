@@ -1,13 +1,20 @@
-// pricecheck: questions on standard input, a line for each on standard output.
+// pricecheck: questions on standard input, a line for each on standard output, by the table that the argument names.
 //
 // The input is read piece by piece; the page of each is made and written. What `print` requires says what is written, and the law
 // `pieces_join` that the cuts do not show. What cannot be read or written is said on standard error. After a read that failed the
 // questions that came whole have their lines; after a write that failed nothing more is written, and the last line may be cut.
 #![tactic(auto)]
 
+mod arguments; // arguments.rt: which table the arguments name
+
 ghost use Rattle.std.specs.Prelude.{◌≡◌, ◌≤◌, ◌<◌, T, IfOk, length, drop};
+ghost use Rattle.limits.specs.Terms.{basis_of};
+ghost use Rattle.pages.specs.Lines.{refusal_line};
+ghost use Rattle.pages.specs.Pages.{StandsFrom};
 ghost use Rattle.pricecheck.specs.Run.{page_from, EndsWith, piece_bytes, text_bytes, first_of, read_failed, clamp_len, answered_bytes, answered_part, goes_on};
 
+use limits::terms::{BadTerms, Terms};
+use pages::lines::{write_page, write_refusal};
 use questions::QUESTION_BYTES;
 use std::io;
 use std::io::{Read, Write};
@@ -117,24 +124,25 @@ fn first_of(index: u32) -> u64
 }
 
 // Makes the page of the questions of a piece, at the end of the text. Answers where it begins. It is never refused: the law `pieces_fit`.
-fn page_of(index: u32, questions: &[u8], text: &mut [u8; TEXT_BYTES]) -> usize
+fn page_of(terms: &Terms, index: u32, questions: &[u8], text: &mut [u8; TEXT_BYTES]) -> usize
     requires { length questions.now ≤ piece_bytes }
     ensures inside { result ≤ text_bytes }
-    ensures page { drop result text.new ≡ page_from (first_of index) questions.now }
+    ensures page { drop result text.new ≡ page_from (basis_of terms.now) (first_of index) questions.now }
 {
-    pages::write_page(questions, first_of(index), text).unwrap()
+    write_page(terms, questions, first_of(index), text).unwrap()
 }
 
 // Writes a page, and nothing else. No definition gives the answer: it is the system's. What is written is said by `requires`: the page of
-// the bytes that came of a piece, numbered on. `index`, `piece` and `input` are there for it.
+// the bytes that came of a piece, numbered on. `terms`, `index`, `piece` and `input` are there for it.
 fn print(
     writer: &mut impl Write,
+    terms: &Terms,
     index: u32,
     piece: &[u8],
     input: Input,
     page: &[u8],
 ) -> io::Result<()>
-    requires { page.now ≡ page_from (first_of index) (answered_part input.has_failed input.bytes piece.now) }
+    requires { page.now ≡ page_from (basis_of terms.now) (first_of index) (answered_part input.has_failed input.bytes piece.now) }
 {
     writer.write_all(page)
 }
@@ -144,15 +152,16 @@ fn answer_piece(
     rt: &(impl Eprint + AllocGlobal),
     reader: &mut impl Read,
     writer: &mut impl Write,
+    terms: &Terms,
     index: u32,
     piece: &mut [u8; PIECE_BYTES],
     text: &mut [u8; TEXT_BYTES],
 ) -> Outcome
-    ensures { EndsWith text.new (page_from (first_of index) (answered_part result.input.has_failed result.input.bytes piece.new)) }
+    ensures { EndsWith text.new (page_from (basis_of terms.now) (first_of index) (answered_part result.input.has_failed result.input.bytes piece.new)) }
 {
     let input = fill(rt, reader, piece);
-    let start = page_of(index, &piece[..input.answered_bytes()], text);
-    let is_written = match print(writer, index, piece, input, &text[start..]) {
+    let start = page_of(terms, index, &piece[..input.answered_bytes()], text);
+    let is_written = match print(writer, terms, index, piece, input, &text[start..]) {
         Ok(()) => true,
         Err(error) => {
             say_failure(rt, "standard output", error);
@@ -162,14 +171,48 @@ fn answer_piece(
     Outcome { input, is_written }
 }
 
+// Writes the line of why there is nothing to judge by, and nothing else: what `requires` says. `bad` is there for it.
+fn print_refusal(writer: &mut impl Write, bad: BadTerms, line: &[u8]) -> io::Result<()>
+    requires { line.now ≡ refusal_line bad }
+{
+    writer.write_all(line)
+}
+
+// Makes and writes that line. The text then ends with it.
+fn refuse(
+    rt: &(impl Eprint + AllocGlobal),
+    writer: &mut impl Write,
+    bad: BadTerms,
+    text: &mut [u8; TEXT_BYTES],
+)
+    ensures { EndsWith text.new (refusal_line bad) }
+{
+    let start = write_refusal(bad, text);
+    if let Err(error) = print_refusal(writer, bad, &text[start..]) {
+        say_failure(rt, "standard output", error);
+    }
+}
+
 // Answers piece after piece. A loop has to end: this one does after 2^32 - 1 pieces, which is more than 2^42 questions.
 fn main(rt: HostRuntime) {
     let mut reader = rt.stdin();
     let mut writer = rt.stdout();
     let mut piece = [0u8; PIECE_BYTES];
     let mut text = [0u8; TEXT_BYTES];
+    let terms = match arguments::terms_named(&rt) {
+        Ok(terms) => terms,
+        Err(bad) => return refuse(&rt, &mut writer, bad, &mut text),
+    };
     for index in 0..u32::MAX {
-        let outcome = answer_piece(&rt, &mut reader, &mut writer, index, &mut piece, &mut text);
+        let outcome = answer_piece(
+            &rt,
+            &mut reader,
+            &mut writer,
+            &terms,
+            index,
+            &mut piece,
+            &mut text,
+        );
         if !outcome.does_go_on() {
             break;
         }

@@ -7,7 +7,7 @@ use borrow.Author.Tests.{not-false}
 use Rattle.facts.specs.Lists.{holds}
 use Rattle.facts.proofs.Tests.{true_of}
 use Rattle.facts.proofs.Numbers.{of_smaller, of_larger}
-use Rattle.ladder.specs.Bands.{Table, well_formed}
+use Rattle.tables.specs.Bands.{Table, well_formed}
 use Rattle.ladder.specs.Ladder.{ladder, is_ladder_price}
 use Rattle.ladder.specs.Places.{is_outside}
 use Rattle.ladder.specs.Spreads.{if_within}

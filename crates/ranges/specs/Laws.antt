@@ -1,7 +1,7 @@
 -- The laws of ranges. Each is a field of the record RangeLaws at the end, which proofs/Laws.antt proves as range_laws: BoundsOnLadder is the
 -- field bounds_on_ladder.
 use Rattle.std.specs.Prelude.{◌≡◌, ℕ, false, T, Ok}
-use Rattle.ladder.specs.Bands.{Table, well_formed}
+use Rattle.tables.specs.Bands.{Table, well_formed}
 use Rattle.ladder.specs.Ladder.{ladder, is_ladder_price}
 use Rattle.ladder.specs.Places.{is_outside}
 use Rattle.limits.specs.declared.Percentage.{Percentage}

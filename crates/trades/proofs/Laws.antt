@@ -5,14 +5,18 @@ use Prim.Native.Nat.{ℕ, ◌≤◌}
 use native.Mathlib.Omega.{arith}
 use mathlib.Core.Bool.{Bool, true, false, not, cond, ◌&&◌}
 use lib.Dec.{T, eqb, leb, leb→le}
-use Rattle.ladder.specs.Bands.{Table, well_formed}
+use Rattle.tables.specs.Bands.{Table, well_formed}
+use Rattle.tables.specs.Named.{usual_table}
+use Rattle.tables.proofs.Laws.{table_laws}
+use Rattle.ladder.specs.Named.{usual_ladder}
 use Rattle.ladder.specs.Ladder.{Prices, ladder, is_ladder_price}
 use Rattle.ladder.specs.Places.{first_price, last_price}
 use Rattle.facts.proofs.Tests.{and_left, and_right, below}
 use Rattle.std.proofs.lemmas.Bool.{or_parts, true≢false}
 use Rattle.ladder.proofs.Laws.{ladder_laws}
 use Rattle.limits.specs.declared.Percentage.{Percentage}
-use Rattle.limits.specs.Limits.{lower_limit_found, upper_limit_found}
+use Rattle.limits.specs.Limits.{five_percent, lower_limit_found, upper_limit_found}
+use Rattle.limits.specs.Terms.{terms_on}
 use Rattle.questions.specs.Checks.{is_off, lies_outside, bad_pair}
 use Rattle.questions.proofs.Laws.{question_laws}
 use Rattle.ranges.specs.declared.Range.{Range}
@@ -23,8 +27,8 @@ use Rattle.judging.specs.declared.Verdict.TheVariants.{Accepted, OutsideLadder, 
 use Rattle.judging.specs.Verdicts.{outside, below_lowest, above_highest}
 use Rattle.judging.specs.Numbers.{verdict_number}
 use Rattle.trades.specs.declared.TradeReferences.{TradeReferences}
-use Rattle.trades.specs.Trades.{any_trade_off, trade_disagrees, trade_range, trade_reading, trade_verdict, trade_by, trade_judged}
-use Rattle.trades.specs.Laws.{is_trade_refusal, Numbers, TradeNumbers, FromTo, TradeRange, TradeCheckedAlike, TradeLaws}
+use Rattle.trades.specs.Trades.{any_trade_off, trade_disagrees, trade_range, trade_reading, trade_verdict, trade_by, trade_judged, trade_judged_by}
+use Rattle.trades.specs.Laws.{is_trade_refusal, Numbers, TradeNumbers, FromTo, TradeRange, TradeCheckedAlike, TradeOnTable, TradeLaws}
 use Rattle.trades.proofs.Pairs.{paired, range_rises, limits_paired}
 
 -- ---- the range
@@ -129,5 +133,13 @@ trade_checked_alike : TradeCheckedAlike
 unfolding any_trade_off
 trade_checked_alike t wf r close = rw (close, question_laws.none_outside t wf r.previous_close close)
 
+-- ---- on a table by its number
+
+trade_on_table : TradeOnTable
+trade_on_table n p r = record { unknown = λ e. rw e refl; named = λ e. rw e refl }
+
+pub usual : (p : ℕ) (r : TradeReferences) → trade_judged_by (terms_on usual_table) p r ≡ trade_judged usual_ladder five_percent p r
+usual p r = (trade_on_table usual_table p r).named table_laws.usual_is_named
+
 pub trade_laws : TradeLaws
-trade_laws = record { trade_numbers = trade_numbers; trade_range_lem = trade_range_lem; trade_checked_alike = trade_checked_alike }
+trade_laws = record { trade_numbers = trade_numbers; trade_range_lem = trade_range_lem; trade_checked_alike = trade_checked_alike; trade_on_table = trade_on_table }

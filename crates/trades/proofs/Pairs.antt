@@ -6,7 +6,7 @@ use native.Mathlib.Omega.{arith}
 use mathlib.Core.Bool.{false}
 use lib.Dec.{T}
 use borrow.Author.Tests.{ltb-false}
-use Rattle.ladder.specs.Bands.{Table, well_formed}
+use Rattle.tables.specs.Bands.{Table, well_formed}
 use Rattle.ladder.specs.Ladder.{ladder}
 use Rattle.ladder.proofs.Laws.{ladder_laws}
 use Rattle.std.proofs.lemmas.Bool.{true≢false}

@@ -1,15 +1,19 @@
 -- The laws of trades. Each is a field of the record TradeLaws at the end, which proofs/Laws.antt proves as trade_laws: TradeNumbers is the
 -- field trade_numbers.
-use Rattle.std.specs.Prelude.{◌≡◌, ℕ, Bool, false, ◌&&◌, ◌||◌, T, eqb, leb}
-use Rattle.ladder.specs.Bands.{Table, well_formed}
+use Rattle.std.specs.Prelude.{◌≡◌, ℕ, Bool, true, false, ◌&&◌, ◌||◌, T, eqb, leb}
+use Rattle.tables.specs.Bands.{Table, well_formed}
+use Rattle.tables.specs.Named.{unknown_table}
 use Rattle.ladder.specs.Ladder.{Prices, ladder}
+use Rattle.ladder.specs.Named.{ladder_named}
 use Rattle.limits.specs.declared.Percentage.{Percentage}
+use Rattle.limits.specs.Limits.{five_percent}
+use Rattle.limits.specs.Terms.{terms_on}
 use Rattle.questions.specs.Checks.{is_off}
 use Rattle.judging.specs.declared.Answer.{Answer}
 use Rattle.judging.specs.Answers.{none_shown}
 use Rattle.judging.specs.Laws.{LadderRange}
 use Rattle.trades.specs.declared.TradeReferences.{TradeReferences}
-use Rattle.trades.specs.Trades.{any_trade_off, trade_judged}
+use Rattle.trades.specs.Trades.{any_trade_off, trade_judged, trade_judged_by}
 
 -- 3 and 4
 abbrev pub is_trade_refusal : ℕ → Bool
@@ -43,9 +47,18 @@ TradeCheckedAlike =
     (is_off (ladder t) r.previous_close || is_off (ladder t) r.lowest_bid || is_off (ladder t) r.lowest_ask ||
     is_off (ladder t) r.highest_bid || is_off (ladder t) r.highest_ask)
 
+-- A trade to a call that names a table: 14 with 0 and 0 by a number that names none; else it is judged over that table, at 5 percent.
+pub record OnTable (n p : ℕ) (r : TradeReferences) : Type 0 where
+  pub unknown : unknown_table n ≡ true → trade_judged_by (terms_on n) p r ≡ none_shown 14
+  pub named : unknown_table n ≡ false → trade_judged_by (terms_on n) p r ≡ trade_judged (ladder_named n) five_percent p r
+
+abbrev pub TradeOnTable : Type 0
+TradeOnTable = (n p : ℕ) (r : TradeReferences) → OnTable n p r
+
 -- ---- all of them
 
 pub record TradeLaws : Type 0 where
   pub trade_numbers : TradeNumbers
   pub trade_range_lem : TradeRange
   pub trade_checked_alike : TradeCheckedAlike
+  pub trade_on_table : TradeOnTable

@@ -5,6 +5,7 @@ use Rattle.std.specs.Prelude.{ℕ, Bool, cond, ◌||◌, Ok, Err}
 use Rattle.ladder.specs.Ladder.{Prices}
 use Rattle.limits.specs.declared.Percentage.{Percentage}
 use Rattle.limits.specs.Limits.{lower_limit_found, upper_limit_found}
+use Rattle.limits.specs.Terms.{Found, bad_terms_number}
 use Rattle.questions.specs.declared.Reference.TheVariants.{Missing}
 use Rattle.questions.specs.Missing.{reference_of, least, greatest, price_or}
 use Rattle.questions.specs.Checks.{is_off, lies_outside, bad_pair}
@@ -17,7 +18,7 @@ use Rattle.judging.specs.declared.Verdict.{Verdict}
 use Rattle.judging.specs.declared.Verdict.TheVariants.{Accepted, OutsideLadder, BelowLowest, AboveHighest}
 use Rattle.judging.specs.Verdicts.{outside, below_lowest, above_highest}
 use Rattle.judging.specs.Numbers.{verdict_number}
-use Rattle.judging.specs.Answers.{refused_answer}
+use Rattle.judging.specs.Answers.{none_shown, refused_answer}
 use Rattle.trades.specs.declared.TradeReferences.{TradeReferences}
 
 -- "After the trade price, 0 means missing."
@@ -78,3 +79,8 @@ trade_by l (Err refusal) p = refused_answer refusal
 
 unfoldable pub trade_judged : Prices → Percentage → ℕ → TradeReferences → Answer
 trade_judged l percent p r = trade_by l (trade_reading l percent r) p
+
+-- the answer for a call that names a table: a bad one "gives 14 with 0 and 0"
+abbrev pub trade_judged_by : Found → ℕ → TradeReferences → Answer
+trade_judged_by (Ok basis) p r = trade_judged basis.prices basis.percentage p r
+trade_judged_by (Err bad) p r = none_shown (bad_terms_number bad)

@@ -1,6 +1,6 @@
 // Worked prices: what the library finds for each line of document 01, "Prices worked out", for the examples of source document 004, for
-// the programs that would look finished, for closes off the ladder, and for some lines more, compared with what is due. Each line ends with
-// right or WRONG.
+// the programs that would look finished, for closes off the ladder, on each of the three tables, and for some lines more, compared with what
+// is due. Each line ends with right or WRONG.
 //
 // A line that cannot be written ends the program with that error, and nothing is written after it.
 #![tactic(auto)]
@@ -10,6 +10,7 @@ mod paper; // paper.rt: lines A to P, and source document 004
 mod wrong_programs; // wrong_programs.rt: answers of wrong programs that must not come out
 mod further; // further.rt: lines beyond those of the paper
 mod old_closes; // old_closes.rt: closes and nominal prices off the ladder
+mod by_table; // by_table.rt: lines that tell the three tables apart
 mod days; // days.rt: a day book, and orders that are filled from it
 
 use std::io;
@@ -37,6 +38,11 @@ fn main(rt: HostRuntime) -> io::Result<()> {
     old_closes::questions(&rt)?;
     old_closes::refused(&rt)?;
     old_closes::trades(&rt)?;
+    by_table::steps(&rt)?;
+    by_table::places(&rt)?;
+    by_table::limits(&rt)?;
+    by_table::questions(&rt)?;
+    by_table::trades(&rt)?;
     days::opening(&rt)?;
     days::quotes(&rt)
 }

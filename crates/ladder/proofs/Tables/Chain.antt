@@ -10,8 +10,8 @@ use lib.Dec.{T, eqb, ltb, ltb→lt, eqb→eq}
 use lib.ListN.{length, get_or, take, drop}
 use Rattle.std.proofs.lemmas.List.{take_rest, get_or-take, get_or-drop, length-take, length-drop, length_push, same_from_push, take_more}
 use Rattle.std.specs.List.{push}
-use Rattle.ladder.specs.declared.Band.{Band}
-use Rattle.ladder.specs.Bands.{no_band, whole, chained}
+use Rattle.tables.specs.declared.Band.{Band}
+use Rattle.tables.specs.Bands.{no_band, whole, chained}
 use Rattle.ladder.specs.Ladder.{width, rungs, band_prices}
 use Rattle.ladder.specs.Arithmetic.{places_below}
 use Rattle.ladder.specs.Places.{price_at, last_after}

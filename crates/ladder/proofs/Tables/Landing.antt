@@ -14,7 +14,7 @@ use Rattle.std.specs.List.{position_or_len}
 use Rattle.std.proofs.lemmas.List.{length-take-le}
 use Rattle.std.proofs.lemmas.List.Recursion.{is_count_by}
 use Rattle.std.proofs.lemmas.Option.{cond_some, none-some}
-use Rattle.ladder.specs.declared.Band.{Band}
+use Rattle.tables.specs.declared.Band.{Band}
 use Rattle.ladder.specs.Ladder.{band_prices}
 use Rattle.ladder.specs.Places.{last_after}
 use Rattle.ladder.specs.Arithmetic.{bands_below, first_from, count_below}

@@ -9,8 +9,8 @@ use mathlib.Core.Bool.{◌&&◌, ◌||◌}
 use mathlib.Core.Logic.{◌⊎◌, inl, inr, ⊎_elim}
 use mathlib.Core.List.{List, [], ◌∷◌, ◌++◌}
 use lib.Dec.{T, eqb, ltb, leb, eqb→eq, ltb→lt, lt→ltb, leb→le, le→leb, eqb_refl}
-use Rattle.ladder.specs.declared.Band.{Band}
-use Rattle.ladder.specs.Bands.{well_formed}
+use Rattle.tables.specs.declared.Band.{Band}
+use Rattle.tables.specs.Bands.{well_formed}
 use Rattle.ladder.specs.Ladder.{width, rungs, band_prices, ladder, in_band, in_some_band, is_ladder_price}
 use Rattle.facts.specs.Lists.{holds}
 use Rattle.ladder.specs.Places.{price_at}

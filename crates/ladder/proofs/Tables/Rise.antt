@@ -7,8 +7,8 @@ use native.Mathlib.Omega.{arith}
 use mathlib.Core.List.{List}
 use lib.Dec.{T}
 use lib.ListN.{length}
-use Rattle.ladder.specs.declared.Band.{Band}
-use Rattle.ladder.specs.Bands.{well_formed}
+use Rattle.tables.specs.declared.Band.{Band}
+use Rattle.tables.specs.Bands.{well_formed}
 use Rattle.ladder.specs.Ladder.{width, ladder}
 use Rattle.std.specs.Option.{unwrap_or}
 use Rattle.facts.specs.Lists.{holds}

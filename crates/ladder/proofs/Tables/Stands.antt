@@ -12,8 +12,8 @@ use borrow.Author.Tests.{eqb-true, eqb-false}
 use Rattle.std.specs.Bool.{then_some}
 use Rattle.std.proofs.lemmas.Bool.{true≢false}
 use lib.ListN.{length}
-use Rattle.ladder.specs.declared.Band.{Band}
-use Rattle.ladder.specs.Bands.{well_formed}
+use Rattle.tables.specs.declared.Band.{Band}
+use Rattle.tables.specs.Bands.{well_formed}
 use Rattle.ladder.specs.Ladder.{width, ladder}
 use Rattle.facts.specs.Lists.{holds}
 use Rattle.ladder.specs.Places.{is_outside}

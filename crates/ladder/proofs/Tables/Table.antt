@@ -8,8 +8,8 @@ use mathlib.Core.Bool.{◌||◌}
 use mathlib.Core.List.{List, [], ◌∷◌}
 use lib.Dec.{T, ltb, ltb→lt}
 use lib.ListN.{length}
-use Rattle.ladder.specs.declared.Band.{Band}
-use Rattle.ladder.specs.Bands.{chained, well_formed}
+use Rattle.tables.specs.declared.Band.{Band}
+use Rattle.tables.specs.Bands.{chained, well_formed}
 use Rattle.ladder.specs.Ladder.{width, band_prices, ladder}
 use Rattle.facts.specs.Lists.{holds, Rising}
 use Rattle.ladder.specs.Arithmetic.{StandsIn, places_below}

@@ -10,8 +10,8 @@ use mathlib.Core.Bool.{Bool, true, false, cond}
 use lib.Dec.{T, leb}
 use borrow.Author.Tests.{leb-true, leb-false}
 use lib.ListN.{length}
-use Rattle.ladder.specs.declared.Band.{Band}
-use Rattle.ladder.specs.Bands.{well_formed}
+use Rattle.tables.specs.declared.Band.{Band}
+use Rattle.tables.specs.Bands.{well_formed}
 use Rattle.ladder.specs.Ladder.{width, ladder}
 use Rattle.ladder.specs.Places.{price_at}
 use Rattle.ladder.specs.Spreads.{spread_down, times}

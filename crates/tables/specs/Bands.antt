@@ -1,7 +1,7 @@
--- Band tables: what makes one well formed, and the Phase 1 table. Document 01, "The ladder". Every price is a whole number of mils (a mil is
--- 0.001 of the currency unit).
+-- Band tables, and what makes one well formed. Document 01, "The ladder". Every price is a whole number of mils (a mil is 0.001 of the
+-- currency unit).
 use Rattle.std.specs.Prelude.{ℕ, ◌-◌, ◌%◌, Bool, true, false, ◌&&◌, List, [], ◌∷◌, eqb, ltb}
-use Rattle.ladder.specs.declared.Band.{Band}
+use Rattle.tables.specs.declared.Band.{Band}
 
 -- a band of this bottom, top and spread. It holds the prices over its bottom up to its top, a spread apart: its top, not its
 -- bottom. (The first bottom is a ladder price all the same: see Ladder.)
@@ -15,23 +15,6 @@ Table = List Band
 -- what stands past the end of a table
 abbrev pub no_band : Band
 no_band = band 0 0 0
-
--- document 01's "Phase 1 spread table, in mils"
-unfoldable pub phase1 : Table
-phase1 =
-    band 10 250 1 ∷
-    band 250 500 5 ∷
-    band 500 10000 10 ∷
-    band 10000 20000 10 ∷
-    band 20000 50000 20 ∷
-    band 50000 100000 50 ∷
-    band 100000 200000 100 ∷
-    band 200000 500000 200 ∷
-    band 500000 1000000 500 ∷
-    band 1000000 2000000 1000 ∷
-    band 2000000 5000000 2000 ∷
-    band 5000000 9995000 5000 ∷
-    []
 
 -- a band that is not empty, and is a whole number of its spreads wide
 abbrev pub whole : Band → Bool

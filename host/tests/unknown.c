@@ -1,0 +1,249 @@
+/*
+ * Numbers that name no table: every call that takes one gives 14, or finds
+ * none.
+ */
+#include <stdbool.h>
+#include <string.h>
+
+#include "draw.h"
+#include "draw_price.h"
+#include "report.h"
+#include "tests.h"
+
+/* The neighbours of the numbers that do, and numbers of which a part, a byte or
+ * two, would. */
+static const uint32_t unknown[] = {
+    0, 4, 5, 255, 256, 257, 258, 259, 65537, 65538, 16777218, INT32_MAX,
+    UINT32_C(0x80000001), UINT32_C(0x80000002), UINT32_MAX - 1, UINT32_MAX,
+};
+
+enum { UNKNOWN = sizeof unknown / sizeof *unknown };
+
+/* Any number that names no table. */
+static uint32_t any_unknown(struct draw *draw)
+{
+    uint32_t table = (uint32_t)draw_number(draw);
+    return table >= 1 && table <= 3 ? 0 : table;
+}
+
+/* ---- ladder and limits ------------------------------------------------ */
+
+static void none(const char *call, uint32_t table, uint32_t from,
+                 struct hendovita_price found)
+{
+    if (found.found != 0 || found.price != 0)
+        report_say("  table %u, %s %u: found %u %u, due none", table, call,
+                   from, found.found, found.price);
+}
+
+static void no_steps(uint32_t table, uint32_t price)
+{
+    static const uint64_t n[] = {
+        0, 1, 24, 11739, UINT32_MAX, UINT64_C(1) << 32, UINT64_MAX,
+    };
+    for (size_t i = 0; i < sizeof n / sizeof *n; i++) {
+        none("up from", table, price, hendovita_up_on(table, price, n[i]));
+        none("down from", table, price,
+             hendovita_down_on(table, price, n[i]));
+    }
+}
+
+/* The price stands for a place, too. */
+static void no_others(uint32_t table, uint32_t price)
+{
+    struct hendovita_place place = hendovita_place_of_on(table, price);
+    if (place.found != 0 || place.place != 0)
+        report_say("  table %u, place of %u: found %u %u, due none", table,
+                   price, place.found, place.place);
+    none("place", table, price, hendovita_price_at_on(table, price));
+    none("lower limit of", table, price,
+         hendovita_lower_limit_on(table, price));
+    none("upper limit of", table, price,
+         hendovita_upper_limit_on(table, price));
+    none("5 percent below", table, price,
+         hendovita_five_percent_lower_on(table, price));
+    none("5 percent above", table, price,
+         hendovita_five_percent_upper_on(table, price));
+}
+
+static void test_ladder_calls(void)
+{
+    struct draw draw;
+    report_begin("no table: no price and no place, from any price or place");
+    draw_begin(&draw, 21);
+    for (size_t i = 0; i < UNKNOWN; i++) {
+        for (uint32_t price = 0; price <= 60000; price++) {
+            no_steps(unknown[i], price);
+            no_others(unknown[i], price);
+        }
+        for (uint32_t price = UINT32_MAX; price > 60000;
+             price -= price / 999) {
+            no_steps(unknown[i], price);
+            no_others(unknown[i], price);
+        }
+    }
+    for (uint32_t i = 0; i < 300000; i++) {
+        uint32_t table = any_unknown(&draw);
+        no_steps(table, draw_price(&draw));
+        no_others(table, draw_price(&draw));
+    }
+}
+
+/* ---- questions and trades --------------------------------------------- */
+
+static void refused(const char *what, uint32_t table,
+                    struct hendovita_answer found, uint32_t number)
+{
+    if (found.number != number || found.lowest != 0 || found.highest != 0)
+        report_say("  table %u, %s: found %u %u %u, due %u 0 0", table, what,
+                   found.number, found.lowest, found.highest, number);
+}
+
+/* On a table, the questions would get every number that there is. */
+static void test_questions(void)
+{
+    uint32_t counts[11] = {0};
+    uint8_t bytes[40];
+    struct draw draw;
+    report_begin("no table: 14 for a question, good or bad");
+    draw_begin(&draw, 22);
+    for (uint32_t i = 0; i < 300000; i++) {
+        uint32_t table = i % 2 == 0 ? unknown[i / 2 % UNKNOWN]
+                                    : any_unknown(&draw);
+        draw_question(&draw, bytes);
+        counts[plain_question(bytes).number]++;
+        refused("question", table,
+                hendovita_judge_question_on(table, bytes, 40), 14);
+    }
+    for (uint32_t number = 0; number <= 10; number++)
+        if (number != 1 && counts[number] < 1000)
+            report_say("  only %u that would get %u", counts[number], number);
+}
+
+static void test_lengths(void)
+{
+    static const uint8_t filling[] = {0, 1, 2, 255};
+    uint8_t bytes[90];
+    report_begin("no table: 1 before it, for a question not of 40 bytes");
+    for (size_t f = 0; f < sizeof filling; f++) {
+        memset(bytes, filling[f], sizeof bytes);
+        for (size_t i = 0; i < UNKNOWN; i++)
+            for (size_t len = 0; len <= sizeof bytes; len++)
+                refused("length", unknown[i],
+                        hendovita_judge_question_on(unknown[i], bytes, len),
+                        len == 40 ? 14 : 1);
+    }
+    for (size_t i = 0; i < UNKNOWN; i++)
+        refused("no question", unknown[i],
+                hendovita_judge_question_on(unknown[i], NULL, 0), 1);
+}
+
+static void test_trades(void)
+{
+    struct draw draw;
+    report_begin("no table: 14 for a trade, good or bad");
+    draw_begin(&draw, 23);
+    for (uint32_t i = 0; i < 300000; i++) {
+        uint32_t table = i % 2 == 0 ? unknown[i / 2 % UNKNOWN]
+                                    : any_unknown(&draw);
+        uint32_t f[6];
+        draw_trade(&draw, f);
+        refused("trade", table,
+                hendovita_judge_trade_on(table, f[0], f[1], f[2], f[3], f[4],
+                                         f[5]), 14);
+    }
+}
+
+/* ---- batches ---------------------------------------------------------- */
+
+enum { MOST = 1001, SPARE = 64 };
+
+static uint8_t questions[MOST * 40 + SPARE];
+static uint8_t answers[MOST * 12 + SPARE];
+
+static uint8_t pattern(size_t i)
+{
+    return (uint8_t)(i * 11 + 5);
+}
+
+/* One call: 14, or 1 where that comes first, and every byte as it was. */
+static void judge(uint32_t table, size_t asked, size_t room)
+{
+    bool taken = asked % 40 == 0 && asked / 40 <= 1000
+              && room >= asked / 40 * 12;
+    uint32_t due = taken ? 14 : 1;
+    for (size_t i = 0; i < sizeof answers; i++)
+        answers[i] = pattern(i);
+    struct hendovita_outcome outcome =
+        hendovita_judge_batch_on(table, questions, asked, answers, room);
+    if (outcome.number != due || outcome.count != 0)
+        report_say("  table %u, %zu bytes into %zu: found %u %u, due %u 0",
+                   table, asked, room, outcome.number, outcome.count, due);
+    for (size_t i = 0; i < sizeof answers; i++)
+        if (answers[i] != pattern(i))
+            report_say("  table %u, %zu bytes into %zu: byte %zu is %u",
+                       table, asked, room, i, answers[i]);
+}
+
+static void every_size(uint32_t table)
+{
+    static const size_t sizes[] = {0, 1, 2, 3, 25, 999, 1000, 1001};
+    for (size_t i = 0; i < sizeof sizes / sizeof *sizes; i++) {
+        size_t n = sizes[i];
+        judge(table, 40 * n, 0);
+        judge(table, 40 * n, 12 * n);
+        judge(table, 40 * n, 12 * n + 1);
+        judge(table, 40 * n, sizeof answers);
+        judge(table, 40 * n + 1, sizeof answers);
+        if (n > 0) {
+            judge(table, 40 * n, 12 * n - 1);
+            judge(table, 40 * n - 1, sizeof answers);
+        }
+    }
+    for (size_t asked = 0; asked <= 90; asked++)
+        judge(table, asked, sizeof answers);
+}
+
+/* With NULL, and with one byte that is to stay. */
+static void empty(uint32_t table)
+{
+    uint8_t byte = 77;
+    struct hendovita_outcome found[3] = {
+        hendovita_judge_batch_on(table, NULL, 0, NULL, 0),
+        hendovita_judge_batch_on(table, NULL, 0, &byte, 1),
+        hendovita_judge_batch_on(table, questions, 0, NULL, 0),
+    };
+    for (int i = 0; i < 3; i++) {
+        report_same("number of an empty batch", found[i].number, 14);
+        report_same("count of an empty batch", found[i].count, 0);
+    }
+    report_same("the byte", byte, 77);
+    report_same("number without a buffer",
+                hendovita_judge_batch_on(table, questions, 40, NULL, 0).number,
+                1);
+}
+
+static void test_whole_batches(void)
+{
+    struct draw draw;
+    report_begin("no table: 14 for a batch, 1 before it, and no byte changed");
+    draw_begin(&draw, 24);
+    for (size_t k = 0; k < MOST; k++)
+        draw_question(&draw, questions + 40 * k);
+    for (size_t i = 0; i < UNKNOWN; i++) {
+        every_size(unknown[i]);
+        empty(unknown[i]);
+    }
+    for (uint32_t i = 0; i < 200; i++)
+        judge(any_unknown(&draw), 40 * draw_below(&draw, MOST),
+              sizeof answers);
+}
+
+void test_unknown(void)
+{
+    test_ladder_calls();
+    test_questions();
+    test_lengths();
+    test_trades();
+    test_whole_batches();
+}
