@@ -6,7 +6,7 @@
 
 PREFIX = /usr/local
 DESTDIR =
-VERSION = 1.3.0
+VERSION = 1.4.0
 
 CFLAGS = -O2
 STRICT = -std=c11 -Wall -Wextra -Wpedantic -Wconversion -Werror
@@ -66,18 +66,26 @@ build/gateway build/feed: build/%: examples/%.c $(LIBRARY) $(HEADER)
 build/bench: $(LIBRARY) $(HEADER) $(BENCH) $(wildcard bench/*.h) $(PLAIN) $(PLAIN_HEADERS)
 	$(CC) $(STRICT) -O3 $(INCLUDES) $(BENCH) $(PLAIN) $(LIBRARY) -o $@
 
+build/asked: bench/asked.c bench/mixes.c bench/mixes.h $(PLAIN) $(PLAIN_HEADERS)
+	mkdir -p build
+	$(CC) $(STRICT) $(CFLAGS) $(INCLUDES) bench/asked.c bench/mixes.c $(PLAIN) -o $@
+
+build/judged: bench/judged.c bench/quick.c bench/quick.h bench/quick_parts.h $(LIBRARY) $(HEADER)
+	$(CC) $(STRICT) -O3 -Iinclude bench/judged.c bench/quick.c $(LIBRARY) -o $@
+
 build/quickcheck: bench/quickcheck.c bench/quick.c bench/quick.h bench/quick_parts.h
 	mkdir -p build
 	$(CC) $(STRICT) -O3 bench/quickcheck.c bench/quick.c -o $@
 
-check: all build/host-tests build/gateway build/feed $(LINES) build/bench build/quickcheck
+check: all build/host-tests build/gateway build/feed $(LINES) build/bench build/quickcheck build/asked build/judged
 	host/run
 
 demo: all
 	build/ask write examples/questions.txt | build/pricecheck
 
-bench: all build/bench build/quickcheck
+bench: all build/bench build/quickcheck build/asked build/judged
 	build/bench
+	bench/instructions
 
 install: all
 	mkdir -p "$(DESTDIR)$(PREFIX)/bin" "$(DESTDIR)$(PREFIX)/include" "$(DESTDIR)$(PREFIX)/lib/pkgconfig"

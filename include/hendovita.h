@@ -443,10 +443,17 @@ struct hendovita_place {
     uint32_t found, place;
 };
 
-/* Each call comes twice. That which ends in _on takes the number of a table
- * first and finds on that table what the other finds on its own; by a number
- * that names no table it finds none. What is said below of none is said of the
- * tables that there are. */
+/* A band: found is 1, and index counts the bands of the table from 0; or none:
+ * found is 0, and index is 0, which is a proper index where found is 1. */
+struct hendovita_band {
+    uint32_t found, index;
+};
+
+/* Each call comes twice, but for that of a band, which always names a table.
+ * Of the two, that which ends in _on takes the number of a table first and
+ * finds on that table what the other finds on its own; by a number that names
+ * no table it finds none, and so does that of a band. What is said below of
+ * none is said of the tables that there are. */
 
 /* The price n spreads up or down, any n, halting at the ends of the ladder;
  * with n = 0 the price itself. From a price between two ladder prices the
@@ -475,6 +482,19 @@ HENDOVITA_CHECK_RESULT
 struct hendovita_place hendovita_place_of(uint32_t price);
 HENDOVITA_CHECK_RESULT
 struct hendovita_place hendovita_place_of_on(uint32_t table, uint32_t price);
+
+/* The band of a price: the one whose bottom it is above and whose top it does
+ * not exceed; that of 0.010, the first bottom, is the first. Each table has
+ * twelve, 0 to 11, which begin at 0.010, 0.25, 0.50, 10, 20, 50, 100, 200, 500,
+ * 1,000, 2,000 and 5,000; the last ends at 9,995.
+ *
+ * The answer is that of looking at `allowed` of them at the most, in this
+ * order: 2, 3 and 4, which lie over 0.50 to 50, then 0, 1 and 5 to 11. With 0
+ * none is looked at, with 12 or more all are. None for a price that is in none
+ * of those looked at, and only then. */
+HENDOVITA_CHECK_RESULT
+struct hendovita_band hendovita_band_of_on(uint32_t table, uint32_t price,
+                                           uint32_t allowed);
 
 /* The limits of a reference, a ladder price or not: 5 percent of it or 24
  * spreads, whichever is further, both halting at the ends of the ladder. The

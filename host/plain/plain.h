@@ -53,8 +53,12 @@ uint32_t plain_price(uint32_t place);
 int32_t plain_place(uint32_t price);
 const uint32_t *plain_list(void);
 
-/* The top price of a band, counted from 0: the same on each table. */
+/* The bottom and the top price of a band, counted from 0, and the band of a
+ * price, with so many bands looked at and no more (-1 if the price is in none
+ * of those): the same on each table. */
+uint32_t plain_band_bottom(uint32_t band);
 uint32_t plain_band_top(uint32_t band);
+int32_t plain_band_of(uint32_t price, uint32_t allowed);
 
 /* n single spreads, one after another, halting at the ends of the ladder; with
  * n = 0 the price itself. None from a price outside the ends. */

@@ -1,7 +1,7 @@
 /*
- * The price ladder: the bands of the three tables, the list of all ladder
- * prices of each, and single spreads up and down the list in use, from an entry
- * or from between two.
+ * The price ladder: the bands of the three tables, the search for the band of a
+ * price, the list of all ladder prices of each table, and single spreads up and
+ * down the list in use, from an entry or from between two.
  */
 #include <stdlib.h>
 
@@ -30,6 +30,12 @@ static const struct band bands[PLAIN_BANDS] = {
     {5000000, 9995000, {5000, 5000, 5000}},
 };
 
+/* The bands in the order in which they are looked at: first those that lie over
+ * 0.50 to 50. */
+static const uint32_t order[PLAIN_BANDS] = {
+    2, 3, 4, 0, 1, 5, 6, 7, 8, 9, 10, 11,
+};
+
 /* How many ladder prices there are to be. */
 static const uint32_t prices[PLAIN_TABLES] = {10340, 11740, PLAIN_MOST};
 
@@ -52,6 +58,13 @@ void plain_use_ladder(uint32_t table)
     ladder = &ladders[table];
 }
 
+static bool is_in_band(uint32_t price, uint32_t k)
+{
+    if (price == PLAIN_FIRST)
+        return k == 0;
+    return bands[k].bottom < price && price <= bands[k].top;
+}
+
 /* A ladder price is 10, or a price in a band that exceeds the band's bottom
  * by a multiple of its spread. */
 static bool is_ladder_price(uint32_t price)
@@ -59,7 +72,7 @@ static bool is_ladder_price(uint32_t price)
     if (price == PLAIN_FIRST)
         return true;
     for (uint32_t k = 0; k < PLAIN_BANDS; k++) {
-        if (bands[k].bottom < price && price <= bands[k].top)
+        if (is_in_band(price, k))
             return (price - bands[k].bottom) % bands[k].spread[used] == 0;
     }
     return false;
@@ -110,9 +123,23 @@ const uint32_t *plain_list(void)
     return ladder->list;
 }
 
+uint32_t plain_band_bottom(uint32_t band)
+{
+    return band < PLAIN_BANDS ? bands[band].bottom : 0;
+}
+
 uint32_t plain_band_top(uint32_t band)
 {
     return band < PLAIN_BANDS ? bands[band].top : 0;
+}
+
+int32_t plain_band_of(uint32_t price, uint32_t allowed)
+{
+    for (uint32_t look = 0; look < PLAIN_BANDS && look < allowed; look++) {
+        if (is_in_band(price, order[look]))
+            return (int32_t)order[look];
+    }
+    return -1;
 }
 
 bool plain_within_ends(uint32_t price)

@@ -51,6 +51,8 @@ int main()
         && hendovita_up_on(HENDOVITA_PHASE_2, 500, 24).price == 620
         && hendovita_place_of_on(HENDOVITA_BEFORE_PHASE_1, 20050).found
         && hendovita_lower_limit_on(HENDOVITA_BEFORE_PHASE_1, 20200).price
-            == 19200;
+            == 19200
+        && hendovita_band_of_on(HENDOVITA_PHASE_2, 500, 5).index == 1
+        && !hendovita_band_of_on(HENDOVITA_PHASE_2, 500, 4).found;
     return right ? 0 : 1;
 }

@@ -10,6 +10,7 @@ int main(void)
     test_interface();
     test_ladder();
     test_prices();
+    test_bands();
     test_tables();
     test_unknown();
     test_judging();

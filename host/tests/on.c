@@ -17,13 +17,18 @@ void on_table(uint32_t named)
     plain_use(on_which());
 }
 
-void on_each(void test(void))
+void on_each_named(void test(void))
 {
     for (uint32_t named = 1; named <= PLAIN_TABLES; named++) {
         on_table(named);
         test();
     }
     on_table(NONE);
+}
+
+void on_each(void test(void))
+{
+    on_each_named(test);
     test();
 }
 
@@ -73,6 +78,11 @@ struct hendovita_place on_place_of(uint32_t price)
 {
     return table == NONE ? hendovita_place_of(price)
                          : hendovita_place_of_on(table, price);
+}
+
+struct hendovita_band on_band_of(uint32_t price, uint32_t allowed)
+{
+    return hendovita_band_of_on(on_which(), price, allowed);
 }
 
 struct hendovita_price on_lower_limit(uint32_t reference)

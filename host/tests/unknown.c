@@ -89,6 +89,37 @@ static void test_ladder_calls(void)
     }
 }
 
+static void no_band(uint32_t table, uint32_t price, uint32_t allowed)
+{
+    struct hendovita_band band = hendovita_band_of_on(table, price, allowed);
+    if (band.found != 0 || band.index != 0)
+        report_say("  table %u, band of %u, %u allowed: found %u %u, due none",
+                   table, price, allowed, band.found, band.index);
+}
+
+static void no_bands(uint32_t table, uint32_t price)
+{
+    for (uint32_t allowed = 0; allowed <= 13; allowed++)
+        no_band(table, price, allowed);
+    no_band(table, price, 256);
+    no_band(table, price, UINT32_MAX);
+}
+
+static void test_band_calls(void)
+{
+    struct draw draw;
+    report_begin("no table: no band of any price, however many are allowed");
+    draw_begin(&draw, 25);
+    for (size_t i = 0; i < UNKNOWN; i++) {
+        for (uint32_t price = 0; price <= 60000; price++)
+            no_bands(unknown[i], price);
+        for (uint32_t price = UINT32_MAX; price > 60000; price -= price / 999)
+            no_bands(unknown[i], price);
+    }
+    for (uint32_t i = 0; i < 300000; i++)
+        no_bands(any_unknown(&draw), draw_price(&draw));
+}
+
 /* ---- questions and trades --------------------------------------------- */
 
 static void refused(const char *what, uint32_t table,
@@ -242,6 +273,7 @@ static void test_whole_batches(void)
 void test_unknown(void)
 {
     test_ladder_calls();
+    test_band_calls();
     test_questions();
     test_lengths();
     test_trades();

@@ -2,13 +2,14 @@
 // and none has a precondition. One whose name ends in `_on` uses the table that a number names, and finds nothing where it names none.
 #![tactic(auto)]
 
-mod results; // results.rt: a price or a place, or none, as two numbers
+mod results; // results.rt: a price, a place or a band, or none, as two numbers
 
 ghost use Rattle.std.specs.Prelude.{◌≡◌};
-ghost use Rattle.tables.specs.Named.{phase1};
+ghost use Rattle.tables.specs.Named.{phase1, table_named};
 ghost use Rattle.ladder.specs.Ladder.{ladder};
 ghost use Rattle.ladder.specs.Named.{ladder_named, usual_ladder};
 ghost use Rattle.ladder.specs.Places.{price_at, place_of};
+ghost use Rattle.ladder.specs.Trying.{band_of};
 ghost use Rattle.ladder.specs.Spreads.{spreads_up, spreads_down};
 ghost use Rattle.limits.specs.Limits.{five_percent, percent_lower_found, percent_upper_found, lower_limit_found, upper_limit_found};
 ghost use Rattle.questions.specs.Missing.{reference_of};
@@ -19,7 +20,7 @@ ghost use Rattle.daybook.specs.Events.{event};
 ghost use Rattle.daybook.specs.Days.{opened, entered};
 ghost use Rattle.dayquestion.specs.Filling.{fill_number, filled};
 ghost use Rattle.daynumbers.specs.Numbers.{day_from, entered_numbers};
-ghost use Rattle.interface.specs.Results.{price_found, place_found};
+ghost use Rattle.interface.specs.Results.{price_found, place_found, band_found};
 
 use daybook::Day;
 use daynumbers::{DayNumbers, EnteredNumbers};
@@ -42,6 +43,14 @@ pub struct PriceFound {
 pub struct PlaceFound {
     pub found: u32,
     pub place: u32,
+}
+
+// The index of a band: `found` is 1, or 0 where there is none, and the index is then 0, which is a proper index where `found` is 1.
+#[repr(C)]
+#[derive(Clone, Copy)]
+pub struct BandFound {
+    pub found: u32,
+    pub index: u32,
 }
 
 // The answer to one question of 40 bytes; to any other number of bytes 1, with 0 and 0.
@@ -168,6 +177,14 @@ pub extern "C" fn hendovita_place_of_on(table: u32, price: u32) -> PlaceFound
     ensures { result ≡ place_found (place_of price (ladder_named table)) }
 {
     PlaceFound::from(ladder::place_of_on(table, price))
+}
+
+// The band of a price on the table that a number names, at most `allowed` bands tried; none also where it names none.
+#[unsafe(no_mangle)]
+pub extern "C" fn hendovita_band_of_on(table: u32, price: u32, allowed: u32) -> BandFound
+    ensures { result ≡ band_found (band_of price allowed (table_named table)) }
+{
+    BandFound::from(ladder::band_of_on(table, price, allowed))
 }
 
 // The lower limit of a reference; none outside the ladder's ends.

@@ -4,9 +4,9 @@ use mathlib.Core.Path.{◌≡◌, refl, ap, sym, ◌∙◌}
 use Prim.Native.Nat.{ℕ, ◌+◌, ◌-◌, ◌≤◌, ◌<◌}
 use native.Mathlib.Nat.{zero-add, le_refl, le_trans}
 use native.Mathlib.Omega.{arith}
-use mathlib.Core.Bool.{Bool, true, false, cond}
+use mathlib.Core.Bool.{Bool, true, false, cond, not, ◌||◌}
 use mathlib.Core.List.{List}
-use lib.Dec.{T, ltb→lt, lt→ltb}
+use lib.Dec.{T, eqb, ltb→lt, lt→ltb}
 use lib.ListN.{length}
 use Rattle.facts.specs.Lists.{holds}
 use Rattle.tables.specs.declared.Band.{Band}
@@ -15,13 +15,15 @@ use Rattle.tables.specs.Named.{before_phase1, phase1, phase2, table_named}
 use Rattle.ladder.specs.Ladder.{rungs, band_prices, ladder, is_ladder_price}
 use Rattle.ladder.specs.Search.{first, latest_after, latest, above, below}
 use Rattle.ladder.specs.Places.{price_at, place_from, place_of, last_after, first_price, last_price, is_outside}
+use Rattle.ladder.specs.Trying.{order, lands}
 use Rattle.ladder.specs.Spreads.{spread_up, spread_down, times, if_within}
 use Rattle.ladder.specs.Laws.{TheTables, SameEnds, Nothing, NothingOnUnknown, TheLadder, LadderRises, EndsAreTheTables, NeverZero, PlacesAreInverse}
+use Rattle.ladder.specs.Laws.{FoundHolds, MoreFind, ThreeFind, NoBandOnUnknown}
 use Rattle.ladder.specs.Laws.{Extreme, Least, Greatest, NonePasses, Finds, FirstIsSmallest, LatestIsLargest}
 use Rattle.ladder.specs.Laws.{SpreadUpIsNext, SpreadDownIsPrevious, FirstToTheNearest, SpreadsStay, OnlyWithinTheEnds, NThenM, GoingByPlaces, UpThenDown}
 use Rattle.ladder.specs.Laws.{SpreadsKeepOrder, RoundingKeepsOrder, LadderLaws}
 use Rattle.tables.proofs.Laws.{table_laws}
-use Rattle.ladder.proofs.ByNumber.{none}
+use Rattle.ladder.proofs.ByNumber.{none, no_band}
 use Rattle.ladder.proofs.Lists.Ends.{over_first, under_last, first_held, last_held, Within, within, not_outside, held_within}
 use Rattle.ladder.proofs.Lists.Entries.{at_place, past, entry_held, held_entry, place_of_entry, place_off, entry_of_place}
 use Rattle.ladder.proofs.Lists.Extremes.{Best, NonePass, FoundIs, result_is, result_none, least_one, greatest_one, first_result, latest_result}
@@ -30,7 +32,10 @@ use Rattle.ladder.proofs.Lists.Going.{ups_entry, downs_entry}
 use Rattle.ladder.proofs.Lists.Order.{up_by, down_by, up_leads, down_leads, up_on, down_on, up_lands, down_lands, times_keep, times_lead}
 use Rattle.ladder.proofs.Lists.Order.{spreads_up_order, spreads_down_order, at_least_order, at_most_order}
 use Rattle.ladder.proofs.Tables.Table.{start, start_held, table_facts, first_is_start, last_is_top, ladder_rises as rises}
+use Rattle.ladder.proofs.Lists.Finding.{found_longer}
 use Rattle.ladder.proofs.Tables.Members.{the_members}
+use Rattle.ladder.proofs.Tables.Trying.{Busy, one_lands, found_held, three_find as busy_three}
+use Rattle.ladder.proofs.Tables.Stands.{found_all}
 
 -- counted once for each table, by computation
 the_tables : TheTables
@@ -112,6 +117,30 @@ places_are_inverse t wf =
   where
     place : (k p : ℕ) → price_at k (ladder t) ≡ Some p → place_of p (ladder t) ≡ Some k
     place k p e = place_of_entry (ladder t) (rises t wf) 0 k p e ∙ ap Some (zero-add k)
+
+-- ---- the band of a price
+
+found_holds : FoundHolds
+found_holds t p allowed k e = let r = found_held t p allowed k e in record { index = r.0; held = r.1 }
+
+more_find : MoreFind
+more_find t p a b k = found_longer (lands 1 p t) (order (length t)) a b k
+
+-- by what is tested: the number is 1, 2, 3. Each table is looked at once, by computation
+picked_busy : (one two three : Bool) → not (one || two || three) ≡ false →
+    Busy (cond one before_phase1 (cond two phase1 (cond three phase2 []))) 500 50000
+unfolding before_phase1 phase1 phase2
+picked_busy true two three e = record { tried = refl; bands = omega arith; from = refl; to = refl }
+picked_busy false true three e = record { tried = refl; bands = omega arith; from = refl; to = refl }
+picked_busy false false true e = record { tried = refl; bands = omega arith; from = refl; to = refl }
+picked_busy false false false e = absurd (grind arith)
+
+three_find : ThreeFind
+unfolding table_named
+three_find n known = busy_three (table_named n) ((table_laws.named_tables n).well_formed_lem known) 500 50000 (picked_busy (eqb n 1) (eqb n 2) (eqb n 3) known)
+
+no_band_on_unknown : NoBandOnUnknown
+no_band_on_unknown n unknown p allowed = sym (no_band n (sym unknown) p allowed)
 
 -- ---- searches
 
@@ -301,6 +330,12 @@ ladder_laws =
       ends_are_the_tables = ends_are_the_tables;
       never_zero = never_zero;
       places_are_inverse = places_are_inverse;
+      found_holds = found_holds;
+      one_holds = one_lands;
+      more_find = more_find;
+      three_find = three_find;
+      all_find = λ t wf p. found_all t wf p;
+      no_band_on_unknown = no_band_on_unknown;
       first_is_smallest = first_is_smallest;
       latest_is_largest = latest_is_largest;
       spread_up_is_next = spread_up_is_next;

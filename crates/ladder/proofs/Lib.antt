@@ -2,4 +2,5 @@
 pub mod Laws
 mod ByNumber
 mod Lists
+mod Divides
 mod Tables

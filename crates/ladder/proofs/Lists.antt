@@ -5,3 +5,4 @@ pub mod Entries
 pub mod Moves
 pub mod Going
 pub mod Order
+pub mod Finding

@@ -3,6 +3,7 @@ pub mod Chain
 pub mod Table
 pub mod Members
 pub mod Landing
+pub mod Trying
 pub mod Stands
 pub mod Starts
 pub mod Walks

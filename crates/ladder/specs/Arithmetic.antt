@@ -1,6 +1,7 @@
--- Band arithmetic: where a threshold lands, in which band a price lies and whether it stands there, one turn of a walk, and so many places up.
+-- Band arithmetic: in which band a price lies and whether it stands there, one turn of a walk, and so many places up.
 -- Only functions inside this crate speak of these; what other crates may call is told by the other files.
-use Rattle.std.specs.Prelude.{◌≡◌, ℕ, zero, suc, ◌+◌, ◌-◌, ◌*◌, ◌/◌, ◌%◌, ◌≤◌, ◌<◌, cond, List, [], ◌∷◌, leb, ltb, length, get_or, Option, Some, None, position, count_by}
+use Rattle.std.specs.Prelude.{◌≡◌, ℕ, zero, suc, ◌+◌, ◌-◌, ◌*◌, ◌/◌, ◌%◌, ◌≤◌, ◌<◌, cond, List, [], ◌∷◌, leb, ltb, length, get_or, Option, Some, None, count_by}
+use Rattle.ladder.specs.declared.search.Lies.{Lies}
 use Rattle.ladder.specs.declared.turns.Turn.{Turn}
 use Rattle.ladder.specs.declared.turns.Turn.TheVariants.{Ends, Leaves}
 use Rattle.ladder.specs.declared.rounding.Gap.{Gap}
@@ -8,37 +9,29 @@ use Rattle.tables.specs.Bands.{Table, no_band}
 use Rattle.ladder.specs.Ladder.{width, ladder}
 use Rattle.facts.specs.Lists.{holds}
 use Rattle.ladder.specs.Search.{first, latest, at_least, at_most}
-use Rattle.ladder.specs.Places.{price_at, is_outside}
+use Rattle.ladder.specs.Places.{price_at}
+use Rattle.ladder.specs.Trying.{band_of}
+use Rattle.tables.specs.Inverses.{price_limit, inverse_of}
 
--- how many bands, from the first, end below y: their top, times scale, is less than y. Where y lands on the table, this is the
--- index of its band; above the table it is the number of bands
-unfoldable pub bands_below : ℕ → ℕ → Table → ℕ
-bands_below scale y [] = 0
-bands_below scale y (b ∷ bs) = let rest = suc (bands_below scale y bs) in cond (ltb (scale * b.top) y) rest 0
-
--- the index of the first band that does not end below y
-abbrev pub first_from : ℕ → ℕ → Table → Option ℕ
-first_from scale y t = position (λ b. leb y (scale * b.top)) t
-
--- how many bands of a table end below y, all of them looked at
+-- how many bands of a table end below y / scale
 abbrev pub count_below : ℕ → ℕ → Table → ℕ
 count_below scale y t = count_by (λ b. ltb (scale * b.top) y) t
 
--- the band of a price within the ends
-abbrev pub band_of : ℕ → Table → Option ℕ
-band_of p t = cond (is_outside p (ladder t)) None (Some (bands_below 1 p t))
-
 -- the band of a ladder price
 abbrev pub standing_of : ℕ → Table → Option ℕ
-standing_of p t = cond (holds p (ladder t)) (Some (bands_below 1 p t)) None
+standing_of p t = cond (holds p (ladder t)) (band_of p (length t) t) None
 
--- p lies in band k of a table, or on its bottom
-pub record LiesIn (t : Table) (k p : ℕ) : Type 0 where
-  pub index : k < length t
-  pub low : (get_or t k no_band).bottom ≤ p
-  pub high : p ≤ (get_or t k no_band).top
+-- what is told of the band where p lies: p is in it, or on its bottom
+pub record LiesIn (t : Table) (p : ℕ) (found : Lies) : Type 0 where
+  pub index : found.index < length t
+  pub is : found.band ≡ get_or t found.index no_band
+  pub low : found.band.bottom ≤ p
+  pub high : p ≤ found.band.top
+  pub low_top : found.band.top < price_limit
+  pub spread : 0 < found.band.spread
+  pub inverse : found.inverse ≡ inverse_of found.band.spread
 
--- p stands there: it lies in the band, and is a ladder price
+-- p stands in band k of a table, or on its bottom: it is a ladder price
 pub record StandsIn (t : Table) (k p : ℕ) : Type 0 where
   pub index : k < length t
   pub low : (get_or t k no_band).bottom ≤ p

@@ -1,7 +1,8 @@
--- The laws of the ladder, over any well-formed table, in the order in which a reader meets the notions: table, list, places, searches, spreads,
--- order. Each is a field of the record LadderLaws at the end, which proofs/Laws.antt proves as ladder_laws: TheLadder is the field the_ladder.
+-- The laws of the ladder, over any well-formed table, in the order in which a reader meets the notions: table, list, places, bands, searches,
+-- spreads, order. Each is a field of the record LadderLaws at the end, which proofs/Laws.antt proves as ladder_laws: TheLadder is the field
+-- the_ladder.
 -- That band arithmetic ends where the plain count ends is not a law in this list: it is what the contracts of the calls say.
-use Rattle.std.specs.Prelude.{◌≡◌, ℕ, suc, ◌+◌, ◌-◌, min, ◌≤◌, ◌<◌, Bool, true, false, T, length, get_or, Option, Some, None}
+use Rattle.std.specs.Prelude.{◌≡◌, ℕ, suc, ◌+◌, ◌-◌, min, ◌≤◌, ◌<◌, Bool, true, false, not, ◌&&◌, T, ltb, leb, length, get_or, Option, Some, None, is_some}
 use Rattle.facts.specs.Lists.{holds, Rising}
 use Rattle.tables.specs.Bands.{Table, no_band, well_formed}
 use Rattle.tables.specs.Named.{phase1, table_named, unknown_table}
@@ -9,6 +10,7 @@ use Rattle.ladder.specs.Ladder.{Prices, ladder, is_ladder_price}
 use Rattle.ladder.specs.Named.{ladder_named}
 use Rattle.ladder.specs.Search.{first, latest, or_else, above, below, at_least, at_most}
 use Rattle.ladder.specs.Places.{price_at, place_of, first_price, last_price, is_outside}
+use Rattle.ladder.specs.Trying.{lands, band_of}
 use Rattle.ladder.specs.Spreads.{spread_up, spread_down, times, if_within, spreads_up, spreads_down}
 
 -- ---- the named tables
@@ -93,6 +95,37 @@ pub record Inverse (t : Table) : Type 0 where
 
 abbrev pub PlacesAreInverse : Type 0
 PlacesAreInverse = (t : Table) → T (well_formed t) → Inverse t
+
+-- ---- the band of a price
+
+-- A band that is found is a band of the table and holds the price: whatever the table, and however few bands may be tried.
+pub record IsHeld (t : Table) (p k : ℕ) : Type 0 where
+  pub index : k < length t
+  pub held : T (lands 1 p t k)
+
+abbrev pub FoundHolds : Type 0
+FoundHolds = (t : Table) → (p allowed k : ℕ) → band_of p allowed t ≡ Some k → IsHeld t p k
+
+-- No two bands hold the same price, nor the same threshold over a scale.
+abbrev pub OneHolds : Type 0
+OneHolds = (t : Table) → T (well_formed t) → (scale y j k : ℕ) → T (lands scale y t j) → T (lands scale y t k) → j ≡ k
+
+-- A band that is found is found too where more bands may be tried.
+abbrev pub MoreFind : Type 0
+MoreFind = (t : Table) → (p a b k : ℕ) → a ≤ b → band_of p a t ≡ Some k → band_of p b t ≡ Some k
+
+-- "Allowed three bands, the search still finds the band of every price over 0.50 to 50, on each of the three tables": of these prices, and of no
+-- others.
+abbrev pub ThreeFind : Type 0
+ThreeFind = (n : ℕ) → unknown_table n ≡ false → (p : ℕ) → is_some (band_of p 3 (table_named n)) ≡ (ltb 500 p && leb p 50000)
+
+-- "allowed all, of every price within the ends": of these prices, and of no others.
+abbrev pub AllFind : Type 0
+AllFind = (t : Table) → T (well_formed t) → (p allowed : ℕ) → length t ≤ allowed → is_some (band_of p allowed t) ≡ not (is_outside p (ladder t))
+
+-- By a number that names no table no band is found.
+abbrev pub NoBandOnUnknown : Type 0
+NoBandOnUnknown = (n : ℕ) → unknown_table n ≡ true → (p allowed : ℕ) → band_of p allowed (table_named n) ≡ None
 
 -- ---- searches
 
@@ -229,6 +262,12 @@ pub record LadderLaws : Type 0 where
   pub ends_are_the_tables : EndsAreTheTables
   pub never_zero : NeverZero
   pub places_are_inverse : PlacesAreInverse
+  pub found_holds : FoundHolds
+  pub one_holds : OneHolds
+  pub more_find : MoreFind
+  pub three_find : ThreeFind
+  pub all_find : AllFind
+  pub no_band_on_unknown : NoBandOnUnknown
   pub first_is_smallest : FirstIsSmallest
   pub latest_is_largest : LatestIsLargest
   pub spread_up_is_next : SpreadUpIsNext

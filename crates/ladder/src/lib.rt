@@ -6,6 +6,7 @@
 #![tactic(auto)]
 
 mod search; // search.rt: the band where a threshold lands, and that of a price
+mod multiples; // multiples.rt: whether a number is a multiple of a spread, and what is left over one
 mod turns; // turns.rt: one band of a walk
 mod rise; // rise.rt: so many places up, from a price of a band
 mod places; // places.rt: place to price, price to place
@@ -17,9 +18,11 @@ pub mod table; // table.rt: spread tables
 pub mod named; // named.rt: the tables that a number names
 
 ghost use Rattle.std.specs.Prelude.{◌≡◌};
+ghost use Rattle.tables.specs.Named.{table_named};
 ghost use Rattle.ladder.specs.Named.{ladder_named, usual_ladder};
 ghost use Rattle.ladder.specs.Search.{first, latest, at_least, at_most};
 ghost use Rattle.ladder.specs.Places.{price_at, place_of};
+ghost use Rattle.ladder.specs.Trying.{band_of};
 ghost use Rattle.ladder.specs.Spreads.{spreads_up, spreads_down};
 
 use named::table_of;
@@ -53,6 +56,15 @@ pub fn place_of(price: u32) -> Option<u32>
     ensures { result ≡ place_of price usual_ladder }
 {
     place_of_on(USUAL_TABLE, price)
+}
+
+// The band of a price, by its index, at most `allowed` bands tried; none where the price is in none of these.
+#[tactic(auto, using(crate::proofs::ByNumber::no_band))]
+pub fn band_of_on(table: u32, price: u32, allowed: u32) -> Option<u32>
+    ensures { result ≡ band_of price allowed (table_named table) }
+{
+    let index = table_of(table)?.band_of(price, allowed as usize)?;
+    Some(index as u32)
 }
 
 // The price n spreads up, halting at the last; none from a price outside the ends.

@@ -9,6 +9,8 @@ use super::table::SpreadTable;
 
 impl SpreadTable<'_> {
     // Whether a price is on the ladder.
+    #[tactic(auto, using(crate::proofs::Tables::Stands::stands_held))]
+    #[inline(always)]
     pub fn holds(&self, price: u32) -> bool
         ensures { result ≡ holds price (prices_of self.now) }
     {

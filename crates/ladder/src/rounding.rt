@@ -17,12 +17,14 @@ pub(crate) struct Gap {
 
 impl SpreadTable<'_> {
     // The neighbours between which a threshold inside the ladder lands: scale * below < y <= scale * above.
+    #[inline(always)]
     fn between(&self, scale: u32, y: u64) -> Gap
         requires over_the_first { scale * first_price (prices_of self.now) < y }
         requires up_to_the_last { y ≤ scale * last_price (prices_of self.now) }
         ensures { Between scale y (prices_of self.now) result }
     {
-        let band = self.band_at(self.bands_below(scale, y));
+        let index = self.sought(scale, y, self.bands.len()).unwrap();
+        let band = self.band_at(index);
         let bottom = band.bottom;
         let spread = band.spread;
         let spreads = (y - 1 - product(scale, bottom)) / product(scale, spread);
@@ -34,6 +36,7 @@ impl SpreadTable<'_> {
     }
 
     // The smallest ladder price q with scale * q at least y; none where there is none.
+    #[inline(always)]
     pub fn at_least(&self, scale: u32, y: u64) -> Option<u32>
         ensures { result ≡ first (at_least scale y) (prices_of self.now) }
     {
@@ -49,6 +52,7 @@ impl SpreadTable<'_> {
     }
 
     // The largest ladder price q with scale * q at most y; none where there is none.
+    #[inline(always)]
     pub fn at_most(&self, scale: u32, y: u64) -> Option<u32>
         ensures { result ≡ latest (at_most scale y) (prices_of self.now) }
     {

@@ -6,6 +6,7 @@ ghost use Rattle.ladder.specs.Layout.{prices_of};
 ghost use Rattle.ladder.specs.Arithmetic.{StandsIn};
 ghost use Rattle.ladder.specs.Spreads.{times, spread_down, spreads_up, spreads_down};
 
+use super::multiples::remainder;
 use super::table::SpreadTable;
 use super::turns::{Turn, turn_in};
 
@@ -32,28 +33,33 @@ impl SpreadTable<'_> {
     }
 
     // The price n spreads up, halting at the last; none from a price outside the ends.
+    #[inline(always)]
     pub fn up(&self, price: u32, n: u64) -> Option<u32>
         ensures { result ≡ spreads_up (prices_of self.now) price n }
     {
-        let index = self.band_of(price)?;
+        let found = self.lies(price)?;
         if n == 0 {
             return Some(price);
         }
-        let band = self.band_at(index);
-        let behind = price - (price - band.bottom) % band.spread;
-        Some(self.rise(index, behind, n).unwrap_or(self.last_price()))
+        let over = price - found.band.bottom;
+        let behind = price - remainder(over, found.band.spread, found.inverse);
+        Some(
+            self.rise(found.index, behind, n)
+                .unwrap_or(self.last_price()),
+        )
     }
 
     // The price n spreads down, halting at the first; none from a price outside the ends.
+    #[inline(always)]
     pub fn down(&self, price: u32, n: u64) -> Option<u32>
         ensures { result ≡ spreads_down (prices_of self.now) price n }
     {
-        let index = self.band_of(price)?;
+        let found = self.lies(price)?;
         if n == 0 {
             return Some(price);
         }
-        let band = self.band_at(index);
-        let behind = price + (band.top - price) % band.spread;
-        Some(self.walk_down(index, behind, n))
+        let under = found.band.top - price;
+        let behind = price + remainder(under, found.band.spread, found.inverse);
+        Some(self.walk_down(found.index, behind, n))
     }
 }

@@ -2,4 +2,5 @@
 -- crates/ladder/specs/Lib.antt.
 pub mod Bands
 pub mod Named
+pub mod Inverses
 pub mod Laws

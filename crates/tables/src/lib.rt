@@ -2,6 +2,7 @@
 #![tactic(auto)]
 
 pub mod named; // named.rt: the tables that a number names
+pub mod inverses; // inverses.rt: what stands beside their spreads
 
 // A band of a table: the prices over `bottom`, up to `top`, a `spread` apart.
 #[derive(Clone, Copy, Debug, PartialEq, Eq)]

@@ -17,7 +17,7 @@ macro_rules! band {
 }
 
 // 1: the table before Phase 1.
-const BEFORE_PHASE_1: [Band; 12] = [
+pub(crate) const BEFORE_PHASE_1: [Band; 12] = [
     band!(10, 250, 1),
     band!(250, 500, 5),
     band!(500, 10_000, 10),
@@ -33,7 +33,7 @@ const BEFORE_PHASE_1: [Band; 12] = [
 ];
 
 // 2: the table of Phase 1.
-const PHASE_1: [Band; 12] = [
+pub(crate) const PHASE_1: [Band; 12] = [
     band!(10, 250, 1),
     band!(250, 500, 5),
     band!(500, 10_000, 10),
@@ -49,7 +49,7 @@ const PHASE_1: [Band; 12] = [
 ];
 
 // 3: the table of Phase 2.
-const PHASE_2: [Band; 12] = [
+pub(crate) const PHASE_2: [Band; 12] = [
     band!(10, 250, 1),
     band!(250, 500, 5),
     band!(500, 10_000, 5), // 10 before

@@ -1,5 +1,6 @@
 -- The ends of a rising list: no member is below the first, and none above the last. What lies within the ends.
-use mathlib.Core.Path.{◌≡◌}
+use Rattle.std.specs.Prelude.{Some}
+use mathlib.Core.Path.{◌≡◌, refl}
 use mathlib.Core.Bool.{false}
 use Prim.Native.Nat.{ℕ, ◌≤◌, ◌<◌}
 use native.Mathlib.Nat.{le_of_lt}
@@ -11,6 +12,7 @@ use Rattle.std.proofs.lemmas.Bool.{or_parts, true≢false}
 use Rattle.facts.specs.Lists.{holds, Rising}
 use Rattle.facts.proofs.Lists.{held_cases, held_first, held_rest, held_none}
 use Rattle.ladder.specs.Places.{first_price, last_after, last_price, is_outside}
+use Rattle.ladder.specs.Spreads.{times, if_within}
 
 pub over_first : (l : List ℕ) → Rising l → (x : ℕ) → T (holds x l) → first_price l ≤ x
 over_first [] r x h = held_none x h
@@ -56,3 +58,13 @@ not_outside (a ∷ l) x p h w = rw (le-ltb p a w.low, le-ltb (last_price (a ∷ 
 
 pub held_within : (l : List ℕ) → Rising l → (p : ℕ) → T (holds p l) → is_outside p l ≡ false
 held_within l r p h = not_outside l p p h (record { low = over_first l r p h; high = under_last l r p h })
+
+-- ---- from a price within the ends a number of spreads is answered, and 0 spreads lead to the price itself
+
+module _ (l : List ℕ) (p : ℕ) (w : false ≡ is_outside p l) where
+  pub answers : (number : ℕ) → Some number ≡ if_within p l number
+  answers number = rw (← w) refl
+
+  pub stays : (step : ℕ → ℕ) (n : ℕ) → n ≡ 0 → Some p ≡ if_within p l (times n step p)
+  unfolding times
+  stays step n z = rw z (answers p)

@@ -1,23 +1,26 @@
 -- Rounding by one division: a threshold inside the ladder falls between two neighbours of the band where it lands.
-use Rattle.std.specs.Prelude.{Some}
-use mathlib.Core.Path.{◌≡◌, ap, sym, ◌∙◌}
+use Rattle.std.specs.Prelude.{Option, Some}
+use Rattle.std.specs.Option.{IsSome}
+use mathlib.Core.Path.{◌≡◌, refl, ap, sym, ◌∙◌}
 use Prim.Native.Nat.{ℕ, suc, ◌+◌, ◌-◌, ◌*◌, ◌/◌, ◌%◌, ◌≤◌, ◌<◌}
-use native.Mathlib.Nat.{div-add-mod', mod-lt, mul-pos, zero-mul, eq-zero-or-pos, mul-le-mul_right, le-mul_of_pos_right, lt_of_mul-lt-mul_right}
+use native.Mathlib.Nat.{div-add-mod', mod-lt, mul-pos, zero-mul, eq-zero-or-pos, le_refl, mul-le-mul_right, le-mul_of_pos_right, lt_of_mul-lt-mul_right}
 use native.Mathlib.Omega.{arith}
 use mathlib.Core.Logic.{⊎_elim}
 use mathlib.Core.List.{List}
 use lib.Dec.{T}
-use lib.ListN.{length}
+use lib.ListN.{length, take}
 use Rattle.tables.specs.declared.Band.{Band}
 use Rattle.tables.specs.Bands.{well_formed}
 use Rattle.ladder.specs.Ladder.{width, ladder}
 use Rattle.ladder.specs.Search.{first, at_least}
 use Rattle.ladder.specs.Places.{first_price, last_price}
-use Rattle.ladder.specs.Arithmetic.{bands_below, Between}
+use Rattle.ladder.specs.Trying.{order, sought}
+use Rattle.ladder.specs.Arithmetic.{Between}
 use Rattle.ladder.proofs.Lists.Moves.{between_below, between_above}
 use Rattle.ladder.proofs.Tables.Chain.{Whole, band_at}
-use Rattle.ladder.proofs.Tables.Table.{start, table_facts, ladder_rises, first_is_start, last_listed, band_next, is_whole}
-use Rattle.ladder.proofs.Tables.Landing.{lands_under, lands_over, lands_inside}
+use Rattle.ladder.proofs.Tables.Table.{ladder_rises, first_is_start, band_next, is_whole}
+use Rattle.ladder.proofs.Tables.Landing.{Lands}
+use Rattle.ladder.proofs.Tables.Trying.{found_lands, sought_at, inside_lands}
 
 -- ---- inside the ladder
 
@@ -27,11 +30,18 @@ module _ (t : List Band) (wf : T (well_formed t)) (scale y : ℕ) (low : scale *
       ⊎_elim (λ e. let h : y ≤ 0 * last_price (ladder t) = rw e at high in omega (arith, zero-mul (last_price (ladder t)))) (λ h. h)
       (eq-zero-or-pos scale)
 
-  module _ (k : ℕ) (e : k ≡ bands_below scale y t) where
+  -- inside the ladder a band is found
+  pub is_found : (answer : Option ℕ) → answer ≡ sought scale y (length t) t → IsSome answer
+  is_found answer e =
+      let l = inside_lands t wf scale y (omega arith) high in
+      rw (e ∙ sought_at t wf scale y (length t) (le_refl (length t)) l.0 l.1) refl
+
+  module _ (answer : Option ℕ) (k : ℕ) (is : answer ≡ Some k) (e : answer ≡ sought scale y (length t) t) where
+    l : Lands scale y t k
+    l = (found_lands t wf scale y k (take (length t) (order (length t))) (sym e ∙ is)).0
+
     pub inside : k < length t
-    inside =
-        let facts = table_facts t wf in
-        rw e (lands_inside scale y (start t) t facts.chain facts.some (rw (← (last_listed t wf)) high))
+    inside = l.index
 
     module _ (b : Band) (f : b ≡ band_at t k) where
       w : Whole b
@@ -42,9 +52,9 @@ module _ (t : List Band) (wf : T (well_formed t)) (scale y : ℕ) (low : scale *
 
       pub starts_below : scale * b.bottom < y
       starts_below =
-          rw (f, e)
-          (⊎_elim (λ i. omega (arith, ap (λ x. scale * x) i, ap (λ x. scale * x) (first_is_start t wf))) (λ h. h)
-          (lands_over scale y (start t) t (table_facts t wf).chain (rw e at inside)))
+          rw f
+          (⊎_elim (λ o. o)
+          (λ e. absurd (omega (arith, low, e.1, ap (λ j. scale * (band_at t j).bottom) e.0, ap (λ p. scale * p) (first_is_start t wf)))) l.over)
 
       -- how many whole spreads of the band lie below the threshold
       abbrev spreads : ℕ
@@ -58,7 +68,7 @@ module _ (t : List Band) (wf : T (well_formed t)) (scale y : ℕ) (low : scale *
 
       less : spreads < width b
       less =
-          let under : y ≤ scale * b.top = rw (f, e) (lands_under scale y t (rw e at inside)) in
+          let under : y ≤ scale * b.top = rw f l.under in
           lt_of_mul-lt-mul_right (scale * b.spread) (omega (arith, whole, starts_below, ap (λ x. scale * x) w.divides))
 
       pub gap_fits : b.bottom + spreads * b.spread + b.spread ≤ b.top

@@ -1,152 +1,191 @@
--- Where a threshold lands: the search for its band, band by band, and what holds of the band found.
+-- Where a threshold lands: in one of the bands between whose ends it lies, and in no other. As many bands before that one end below it.
 use mathlib.Core.Path.{◌≡◌, refl, sym, ◌∙◌}
-use Prim.Native.Nat.{ℕ, zero, suc, ◌+◌, ◌*◌, ◌≤◌, ◌<◌}
+use Prim.Native.Nat.{ℕ, zero, suc, ◌+◌, ◌-◌, ◌*◌, ◌≤◌, ◌<◌}
 use native.Mathlib.Nat.{not-suc-le-zero, le_of_suc-le-suc, mul-le-mul_left}
+use native.Mathlib.Decide.{dec_le}
 use native.Mathlib.Omega.{arith}
-use mathlib.Core.Bool.{Bool, true, false, cond}
+use mathlib.Core.Bool.{Bool, true, false, cond, ◌&&◌, ◌||◌}
 use mathlib.Core.Logic.{◌⊎◌, inl, inr, ⊎_elim}
 use mathlib.Core.List.{List, [], ◌∷◌}
-use lib.Dec.{ltb, leb}
+use lib.Dec.{T, eqb, ltb, leb, eqb→eq, eqb_refl, ltb→lt, lt→ltb, leb→le, le→leb}
 use lib.ListN.{length, take, drop}
-use borrow.Author.Tests.{ltb-true, ltb-false, le-ltb, le-leb, lt-leb}
-use Rattle.std.specs.Prelude.{Some, None}
-use Rattle.std.specs.List.{position_or_len}
-use Rattle.std.proofs.lemmas.List.{length-take-le}
+use borrow.Author.Tests.{lt-ltb, le-ltb}
+use Rattle.std.specs.List.{count_by}
+use Rattle.std.proofs.lemmas.List.{get_or_past, length-take-le, length-drop, get_or-take, get_or-drop}
 use Rattle.std.proofs.lemmas.List.Recursion.{is_count_by}
-use Rattle.std.proofs.lemmas.Option.{cond_some, none-some}
 use Rattle.tables.specs.declared.Band.{Band}
-use Rattle.ladder.specs.Ladder.{band_prices}
-use Rattle.ladder.specs.Places.{last_after}
-use Rattle.ladder.specs.Arithmetic.{bands_below, first_from, count_below}
-use Rattle.ladder.proofs.Tables.Chain.{Chain, band_at, last_top}
+use Rattle.tables.specs.Bands.{no_band}
+use Rattle.ladder.specs.Trying.{lands}
+use Rattle.ladder.specs.Arithmetic.{count_below}
+use Rattle.facts.proofs.Tests.{and_left, and_right, and_both, or_left, or_right, or_cases}
+use Rattle.ladder.proofs.Tables.Chain.{Chain, band_at, band_after, band_whole}
 
--- ---- the search, band by band
+-- y / scale lies over the bottom of band k, or is the first bottom
+abbrev pub Over : ℕ → ℕ → List Band → ℕ → Type 0
+Over scale y t k = (scale * (band_at t k).bottom < y) ⊎ ((k ≡ 0) × (scale * (band_at t k).bottom ≡ y))
 
-abbrev from : ℕ → ℕ → Band → Bool
-from scale y b = leb y (scale * b.top)
+-- band k holds y / scale, as facts
+pub record Lands (scale y : ℕ) (t : List Band) (k : ℕ) : Type 0 where
+  pub index : k < length t
+  pub over : Over scale y t k
+  pub under : y ≤ scale * (band_at t k).top
 
--- how many of the first h bands end below: all of them, or as many as end below on the whole table
-below_first : (scale y : ℕ) (t : List Band) (h : ℕ) → h ≤ length t → let n = position_or_len (from scale y) (take h t) in
-    (n < h → n ≡ bands_below scale y t) × (h ≤ n → bands_below scale y t ≡ h + bands_below scale y (drop h t))
-unfolding bands_below
-below_first scale y t zero l = ((λ k. absurd (not-suc-le-zero k)), (λ k. omega arith))
-below_first scale y [] (suc h) l = absurd (not-suc-le-zero l)
-below_first scale y (b ∷ bs) (suc h) l = go (ltb (scale * b.top) y) refl (below_first scale y bs h (le_of_suc-le-suc l))
-  where
-    go : (v : Bool) → ltb (scale * b.top) y ≡ v → let m = position_or_len (from scale y) (take h bs) in
-        (m < h → m ≡ bands_below scale y bs) × (h ≤ m → bands_below scale y bs ≡ h + bands_below scale y (drop h bs)) →
-        let n = position_or_len (from scale y) (b ∷ take h bs) in
-        (n < suc h → n ≡ cond v (suc (bands_below scale y bs)) 0) ×
-        (suc h ≤ n → cond v (suc (bands_below scale y bs)) 0 ≡ suc h + bands_below scale y (drop h bs))
-    go true e rest =
-        rw (lt-leb y (scale * b.top) (ltb-true (scale * b.top) y e))
-        ((λ k. let r = rest.0 (omega arith) in omega (arith, r)), (λ k. let r = rest.1 (omega arith) in omega (arith, r)))
-    go false e rest =
-        rw (le-leb y (scale * b.top) (ltb-false (scale * b.top) y e)) ((λ k. refl), (λ k. absurd (not-suc-le-zero k)))
+module _ (scale y : ℕ) (t : List Band) (k : ℕ) where
+  abbrev low : ℕ
+  low = scale * (band_at t k).bottom
 
--- what trying the bands of a half tells
-pub tried_some : (scale y : ℕ) (t : List Band) (h k : ℕ) → h ≤ length t → Some k ≡ first_from scale y (take h t) → k ≡ bands_below scale y t
-tried_some scale y t h k l e =
-    let found = cond_some _ _ _ (sym e) in
-    let below : position_or_len (from scale y) (take h t) < h = omega (arith, ltb-true _ _ found.0, length-take-le h t l) in
-    sym found.1 ∙ (below_first scale y t h l).0 below
+  abbrev high : ℕ
+  high = scale * (band_at t k).top
 
-pub tried_none : (scale y : ℕ) (t : List Band) (h : ℕ) → h ≤ length t → None ≡ first_from scale y (take h t) →
-    bands_below scale y t ≡ h + bands_below scale y (drop h t)
-tried_none scale y t h l e = (below_first scale y t h l).1 (go (ltb (position_or_len (from scale y) (take h t)) (length (take h t))) refl e)
-  where
-    go : (v : Bool) → ltb (position_or_len (from scale y) (take h t)) (length (take h t)) ≡ v →
-        None ≡ cond v (Some (position_or_len (from scale y) (take h t))) None → h ≤ position_or_len (from scale y) (take h t)
-    go true i n = absurd (none-some _ n)
-    go false i n = omega (arith, ltb-false _ _ i, length-take-le h t l)
+  pub over_is : Over scale y t k → T (ltb low y || eqb k 0 && eqb low y)
+  over_is o =
+      ⊎_elim (λ l. or_left (ltb low y) (eqb k 0 && eqb low y) (lt→ltb low y l))
+      (λ e. or_right (ltb low y) (eqb k 0 && eqb low y) (and_both (eqb k 0) (eqb low y) (rw e.0 tt) (rw e.1 (eqb_refl y)))) o
 
--- ---- all bands counted
+  pub is_over : T (ltb low y || eqb k 0 && eqb low y) → Over scale y t k
+  is_over h =
+      ⊎_elim (λ l. inl (ltb→lt low y l))
+      (λ e. inr (eqb→eq k 0 (and_left (eqb k 0) (eqb low y) e), eqb→eq low y (and_right (eqb k 0) (eqb low y) e)))
+      (or_cases (ltb low y) (eqb k 0 && eqb low y) h)
 
-counting : ℕ → ℕ → List Band → ℕ
-counting scale y [] = 0
-counting scale y (b ∷ bs) = cond (ltb (scale * b.top) y) (1 + counting scale y bs) (counting scale y bs)
+  pub facts_land : Lands scale y t k → T (lands scale y t k)
+  facts_land l = and_both (ltb low y || eqb k 0 && eqb low y) (leb y high) (over_is l.over) (le→leb y high l.under)
 
-counting_is : (scale y : ℕ) (t : List Band) → counting scale y t ≡ count_below scale y t
+  -- past the end of a table there is no band to hold it
+  pub lands_facts : 0 < length t → T (lands scale y t k) → Lands scale y t k
+  lands_facts some h = record { index = index; over = over; under = under }
+    where
+      over : Over scale y t k
+      over = is_over (and_left (ltb low y || eqb k 0 && eqb low y) (leb y high) h)
+
+      under : y ≤ high
+      under = leb→le y high (and_right (ltb low y || eqb k 0 && eqb low y) (leb y high) h)
+
+      index : k < length t
+      index = go (dec_le (length t) k)
+        where
+          go : Dec (length t ≤ k) → k < length t
+          go (yes u) = ⊎_elim (λ l. absurd (past l)) (λ e. omega (arith, e.0, some)) over
+            where
+              none : band_at t k ≡ no_band
+              none = get_or_past t k no_band u
+
+              past : low < y → ⊥
+              past l = let below : scale * 0 < y = rw none at l in let above : y ≤ scale * 0 = rw none at under in omega arith
+          go (no u) = omega arith
+
+-- a test that the first m bands of a list pass, and no others
+counting : (Band → Bool) → List Band → ℕ
+counting test [] = 0
+counting test (b ∷ bs) = cond (test b) (1 + counting test bs) (counting test bs)
+
+counts_first : (test : Band → Bool) (l : List Band) (m : ℕ) → m ≤ length l → ((i : ℕ) → i < m → test (band_at l i) ≡ true) →
+    ((i : ℕ) → m ≤ i → i < length l → test (band_at l i) ≡ false) → counting test l ≡ m
 unfolding counting
-counting_is scale y t = is_count_by (counting scale y) (λ b. ltb (scale * b.top) y) refl (λ b bs. refl) t
+counts_first test [] m h pass fail = omega arith
+counts_first test (b ∷ bs) zero h pass fail =
+    let rest = counts_first test bs 0 (omega arith) (λ i k. absurd (not-suc-le-zero k)) (λ i k j. fail (suc i) (omega arith) (omega arith)) in
+    rw (fail 0 (omega arith) (omega arith)) rest
+counts_first test (b ∷ bs) (suc m) h pass fail =
+    let rest = counts_first test bs m (le_of_suc-le-suc h) (λ i k. pass (suc i) (omega arith)) (λ i k j. fail (suc i) (omega arith) (omega arith)) in
+    rw (pass 0 (omega arith)) (omega (arith, rest))
 
--- of bands that start at y or above it none ends below it
-none_counted : (scale y a : ℕ) (t : List Band) → Chain a t → y ≤ scale * a → counting scale y t ≡ 0
+count_first : (test : Band → Bool) (l : List Band) (m : ℕ) → m ≤ length l → ((i : ℕ) → i < m → test (band_at l i) ≡ true) →
+    ((i : ℕ) → m ≤ i → i < length l → test (band_at l i) ≡ false) → count_by test l ≡ m
 unfolding counting
-none_counted scale y a [] c h = refl
-none_counted scale y a (b ∷ bs) c h =
-    let rises : a ≤ b.top = omega (arith, c.0, c.1.rises) in
-    let over : y ≤ scale * b.top = omega (arith, h, mul-le-mul_left scale rises) in
-    rw (le-ltb (scale * b.top) y over) (omega (arith, none_counted scale y b.top bs c.2 over))
+count_first test l m h pass fail = sym (is_count_by (counting test) test refl (λ b bs. refl) l) ∙ counts_first test l m h pass fail
 
--- the bands of a table rise, so that those that end below y come first
-counts_bands : (scale y a : ℕ) (t : List Band) → Chain a t → counting scale y t ≡ bands_below scale y t
-unfolding bands_below counting
-counts_bands scale y a [] c = refl
-counts_bands scale y a (b ∷ bs) c = go (ltb (scale * b.top) y) refl (counts_bands scale y b.top bs c.2)
-  where
-    go : (v : Bool) → ltb (scale * b.top) y ≡ v → counting scale y bs ≡ bands_below scale y bs →
-        cond v (1 + counting scale y bs) (counting scale y bs) ≡ cond v (suc (bands_below scale y bs)) 0
-    go true e rest = omega (arith, rest)
-    go false e rest = none_counted scale y b.top bs c.2 (ltb-false (scale * b.top) y e)
+module _ (a : ℕ) (t : List Band) (c : Chain a t) where
+  -- no band ends above the bottom of a later one
+  pub ends_before : (j k : ℕ) → j < k → k < length t → (band_at t j).top ≤ (band_at t k).bottom
+  ends_before j zero h m = absurd (not-suc-le-zero h)
+  ends_before j (suc k) h m = go (dec_le k j) (ends_before j k)
+    where
+      after : (band_at t (suc k)).bottom ≡ (band_at t k).top
+      after = band_after a t c k m
 
-pub counts_all : (scale y a : ℕ) (t : List Band) → Chain a t → count_below scale y t ≡ bands_below scale y t
-counts_all scale y a t c = sym (counting_is scale y t) ∙ counts_bands scale y a t c
+      go : Dec (k ≤ j) → (j < k → k < length t → (band_at t j).top ≤ (band_at t k).bottom) → (band_at t j).top ≤ (band_at t (suc k)).bottom
+      go (yes u) rest = let e : j ≡ k = omega arith in rw e (omega (arith, after))
+      go (no u) rest = omega (arith, after, rest (omega arith) (omega arith), (band_whole a t c k (omega arith)).rises)
 
--- the bands from an index on are chained too
-pub rest_chained : (k a : ℕ) (t : List Band) → Chain a t → (b : ℕ) × Chain b (drop k t)
-rest_chained zero a t c = (a, c)
-rest_chained (suc k) a [] c = (a, tt)
-rest_chained (suc k) a (b ∷ bs) c = rest_chained k b.top bs c.2
+  -- bottoms and tops rise
+  module _ (j k : ℕ) (h : j ≤ k) (m : k < length t) where
+    rise_by : (A : Type 0) → (j ≡ k → A) → ((band_at t j).top ≤ (band_at t k).bottom → A) → A
+    rise_by A f g = go (dec_le k j)
+      where
+        go : Dec (k ≤ j) → A
+        go (yes u) = f (omega arith)
+        go (no u) = g (ends_before j k (omega arith) m)
 
--- ---- the band found
+    pub bottoms_rise : (band_at t j).bottom ≤ (band_at t k).bottom
+    bottoms_rise = rise_by ((band_at t j).bottom ≤ (band_at t k).bottom) (λ e. rw e (omega arith)) (λ u. omega (arith, u, (band_whole a t c j (omega arith)).rises))
 
--- the band where y lands ends at y or above it
-pub lands_under : (scale y : ℕ) (t : List Band) → bands_below scale y t < length t → y ≤ scale * (band_at t (bands_below scale y t)).top
-unfolding bands_below
-lands_under scale y [] h = absurd (not-suc-le-zero h)
-lands_under scale y (b ∷ bs) h = go (ltb (scale * b.top) y) refl h (lands_under scale y bs)
-  where
-    go : (v : Bool) → ltb (scale * b.top) y ≡ v → cond v (suc (bands_below scale y bs)) 0 < suc (length bs) →
-        (bands_below scale y bs < length bs → y ≤ scale * (band_at bs (bands_below scale y bs)).top) →
-        y ≤ scale * (band_at (b ∷ bs) (cond v (suc (bands_below scale y bs)) 0)).top
-    go true e k rest = rest (le_of_suc-le-suc k)
-    go false e k rest = ltb-false (scale * b.top) y e
+    pub tops_rise : (band_at t j).top ≤ (band_at t k).top
+    tops_rise = rise_by ((band_at t j).top ≤ (band_at t k).top) (λ e. rw e (omega arith)) (λ u. omega (arith, u, (band_whole a t c k m).rises))
 
--- it is the first band, or starts below y
-pub lands_over : (scale y a : ℕ) (t : List Band) → Chain a t → bands_below scale y t < length t →
-    ((band_at t (bands_below scale y t)).bottom ≡ a) ⊎ (scale * (band_at t (bands_below scale y t)).bottom < y)
-unfolding bands_below
-lands_over scale y a [] c h = absurd (not-suc-le-zero h)
-lands_over scale y a (b ∷ bs) c h = go (ltb (scale * b.top) y) refl h (lands_over scale y b.top bs c.2)
-  where
-    go : (v : Bool) → ltb (scale * b.top) y ≡ v → cond v (suc (bands_below scale y bs)) 0 < suc (length bs) →
-        (bands_below scale y bs < length bs →
-        ((band_at bs (bands_below scale y bs)).bottom ≡ b.top) ⊎ (scale * (band_at bs (bands_below scale y bs)).bottom < y)) →
-        ((band_at (b ∷ bs) (cond v (suc (bands_below scale y bs)) 0)).bottom ≡ a) ⊎
-        (scale * (band_at (b ∷ bs) (cond v (suc (bands_below scale y bs)) 0)).bottom < y)
-    go true e k rest = ⊎_elim (λ i. inr (rw i (ltb-true (scale * b.top) y e))) inr (rest (le_of_suc-le-suc k))
-    go false e k rest = inl c.0
+  module _ (scale y : ℕ) where
+    not_both : (j k : ℕ) → j < k → Lands scale y t j → Lands scale y t k → ⊥
+    not_both j k h m n =
+        ⊎_elim (λ l. omega (arith, m.under, l, mul-le-mul_left scale (ends_before j k h n.index))) (λ e. omega (arith, e.0)) n.over
 
--- a threshold that is not above the last price lands on the table
-pub lands_inside : (scale y a : ℕ) (t : List Band) → Chain a t → 0 < length t → y ≤ scale * last_after a (band_prices t) →
-    bands_below scale y t < length t
-unfolding bands_below
-lands_inside scale y a [] c s h = absurd (not-suc-le-zero s)
-lands_inside scale y a (b ∷ []) c s h = go (ltb (scale * b.top) y) refl
-  where
-    go : (v : Bool) → ltb (scale * b.top) y ≡ v → cond v 1 0 < 1
-    go true e = let l : last_after a (band_prices (b ∷ [])) ≡ b.top = last_top a (b ∷ []) c 0 refl in
-        let m : y ≤ scale * b.top = rw l at h in
-        let u : scale * b.top < y = ltb-true (scale * b.top) y e in
-        omega arith
-    go false e = omega arith
-lands_inside scale y a (b ∷ d ∷ bs) c s h =
-    go (ltb (scale * b.top) y) (lands_inside scale y b.top (d ∷ bs) c.2 (omega arith) (rw (same_last) at h))
-  where
-    same_last : last_after a (band_prices (b ∷ d ∷ bs)) ≡ last_after b.top (band_prices (d ∷ bs))
-    same_last = last_top a (b ∷ d ∷ bs) c (suc (length bs)) refl ∙ sym (last_top b.top (d ∷ bs) c.2 (length bs) refl)
+    -- where it lies over the bottom of a band it lies over that of each band before it
+    pub over_before : (j k : ℕ) → j ≤ k → k < length t → Over scale y t k → Over scale y t j
+    over_before j k h m o =
+        ⊎_elim (λ l. inl (omega (arith, l, mul-le-mul_left scale (bottoms_rise j k h m)))) (λ e. let same : j ≡ k = omega (arith, e.0) in rw same (inr e)) o
 
-    go : (v : Bool) → bands_below scale y (d ∷ bs) < suc (length bs) → cond v (suc (bands_below scale y (d ∷ bs))) 0 < suc (suc (length bs))
-    go true k = omega arith
-    go false k = omega arith
+    -- y / scale lands in one band only
+    pub lands_once : (j k : ℕ) → Lands scale y t j → Lands scale y t k → j ≡ k
+    lands_once j k m n = go (dec_le j k) (dec_le k j)
+      where
+        go : Dec (j ≤ k) → Dec (k ≤ j) → j ≡ k
+        go (yes u) (yes v) = omega arith
+        go (yes u) (no v) = absurd (not_both j k (omega arith) m n)
+        go (no u) v = absurd (not_both k j (omega arith) n m)
+
+    -- between the bottom of a band and the top of one m bands on
+    pub lands_between : (first m : ℕ) → first + m < length t → Over scale y t first → y ≤ scale * (band_at t (first + m)).top →
+        (k : ℕ) × (first ≤ k) × (k ≤ first + m) × Lands scale y t k
+    lands_between first zero h low high =
+        let same : first + 0 ≡ first = omega arith in
+        (first, omega arith, omega arith, record { index = omega arith; over = low; under = rw same at high })
+    lands_between first (suc m) h low high = go (dec_le y (scale * (band_at t first).top)) (lands_between (suc first) m)
+      where
+        go : Dec (y ≤ scale * (band_at t first).top) → (suc first + m < length t → Over scale y t (suc first) →
+            y ≤ scale * (band_at t (suc first + m)).top → (k : ℕ) × (suc first ≤ k) × (k ≤ suc first + m) × Lands scale y t k) →
+            (k : ℕ) × (first ≤ k) × (k ≤ first + suc m) × Lands scale y t k
+        go (yes u) rest = (first, omega arith, omega arith, record { index = omega arith; over = low; under = u })
+        go (no u) rest =
+            let after : (band_at t (suc first)).bottom ≡ (band_at t first).top = band_after a t c first (omega arith) in
+            let same : first + suc m ≡ suc first + m = omega arith in
+            let r = rest (omega arith) (inl (rw after (omega arith))) (rw same at high) in
+            (r.0, omega (arith, r.1), omega (arith, r.2), r.3)
+
+    -- of the bands of a part those before the one where y / scale lands end below it
+    pub counts_to : (first end k : ℕ) → first ≤ k → k < end → end ≤ length t → Lands scale y t k →
+        first + count_below scale y (take (end - first) (drop first t)) ≡ k
+    counts_to first end k low high there l =
+        let count = count_first test part (k - first) (omega (arith, long)) pass fail in omega (arith, count)
+      where
+        test : Band → Bool
+        test b = ltb (scale * b.top) y
+
+        part : List Band
+        part = take (end - first) (drop first t)
+
+        long : length part ≡ end - first
+        long = length-take-le (end - first) (drop first t) (omega (arith, length-drop first t))
+
+        part_band : (i : ℕ) → i < end - first → band_at part i ≡ band_at t (first + i)
+        part_band i h = get_or-take (end - first) (drop first t) i no_band h ∙ get_or-drop first t i no_band
+
+        pass : (i : ℕ) → i < k - first → test (band_at part i) ≡ true
+        pass i h =
+            rw (part_band i (omega arith))
+            (lt-ltb _ _
+            (⊎_elim (λ o. omega (arith, o, mul-le-mul_left scale (ends_before (first + i) k (omega arith) l.index)))
+            (λ e. absurd (omega (arith, e.0))) l.over))
+
+        fail : (i : ℕ) → k - first ≤ i → i < length part → test (band_at part i) ≡ false
+        fail i h m =
+            rw (part_band i (omega (arith, long)))
+            (le-ltb _ _ (omega (arith, l.under, mul-le-mul_left scale (tops_rise k (first + i) (omega arith) (omega (arith, long))))))

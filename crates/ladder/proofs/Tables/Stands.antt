@@ -1,32 +1,79 @@
 -- The band of a price within the ends: the band where it lands. A ladder price exceeds its bottom by a multiple of its spread.
-use Rattle.std.specs.Prelude.{Option, Some, None}
+use Rattle.std.specs.Prelude.{Some, None, is_some}
 use mathlib.Core.Path.{◌≡◌, refl, sym, ap, ◌∙◌}
 use Prim.Native.Nat.{ℕ, suc, ◌+◌, ◌-◌, ◌*◌, ◌/◌, ◌%◌, ◌≤◌, ◌<◌}
-use native.Mathlib.Nat.{div-add-mod', mod-lt, eq-zero-or-pos, lt_of_mul-lt-mul_right}
+use native.Mathlib.Nat.{div-add-mod', mod-lt, eq-zero-or-pos, lt_of_mul-lt-mul_right, le_refl}
 use native.Mathlib.Omega.{arith}
-use mathlib.Core.Bool.{Bool, true, false, cond}
+use mathlib.Core.Bool.{Bool, true, false, not, cond}
 use mathlib.Core.Logic.{⊎_elim}
 use mathlib.Core.List.{List}
 use lib.Dec.{T, eqb}
 use borrow.Author.Tests.{eqb-true, eqb-false}
 use Rattle.std.specs.Bool.{then_some}
 use Rattle.std.proofs.lemmas.Bool.{true≢false}
-use lib.ListN.{length}
+use lib.ListN.{length, get_or, take}
+use Rattle.std.proofs.lemmas.List.{length-map, get_or-map}
 use Rattle.tables.specs.declared.Band.{Band}
-use Rattle.tables.specs.Bands.{well_formed}
+use Rattle.tables.specs.Bands.{no_band, well_formed}
+use Rattle.ladder.specs.declared.search.Lies.{Lies}
 use Rattle.ladder.specs.Ladder.{width, ladder}
 use Rattle.facts.specs.Lists.{holds}
-use Rattle.ladder.specs.Places.{is_outside}
-use Rattle.ladder.specs.Spreads.{times, if_within}
-use Rattle.ladder.specs.Arithmetic.{bands_below, band_of, standing_of, LiesIn, StandsIn}
-use Rattle.facts.proofs.Tests.{passed, failed}
-use Rattle.ladder.proofs.Lists.Ends.{Within, within, held_within}
+use Rattle.ladder.specs.Places.{last_price, is_outside}
+use Rattle.tables.specs.Inverses.{inverse_of, inverses_of}
+use Rattle.ladder.specs.Trying.{order, lands, band_of}
+use Rattle.ladder.specs.Arithmetic.{standing_of, LiesIn, StandsIn}
+use Rattle.facts.proofs.Tests.{passed, failed, true_of}
+use Rattle.ladder.proofs.Lists.Ends.{within, not_outside, held_within}
+use Rattle.ladder.proofs.Lists.Finding.{none_found}
 use Rattle.ladder.proofs.Tables.Chain.{Whole, band_at}
-use Rattle.ladder.proofs.Tables.Table.{Index, index_in, table_facts, start, ladder_rises, first_is_start, last_listed, entry_on}
-use Rattle.ladder.proofs.Tables.Table.{entries_next, is_whole, band_facts}
-use Rattle.ladder.proofs.Tables.Landing.{lands_under, lands_over, lands_inside}
+use Rattle.ladder.proofs.Tables.Table.{Index, index_in, table_facts, start, start_held, ladder_rises, first_is_start, last_is_top, entry_on}
+use Rattle.ladder.proofs.Tables.Table.{entries_next, is_whole}
+use Rattle.ladder.proofs.Tables.Landing.{Lands, bottoms_rise, tops_rise}
+use Rattle.ladder.proofs.Tables.Trying.{facts, found_lands, inside_lands, sought_at}
+
+-- p lies in band k of a table, or on its bottom
+pub record Inside (t : List Band) (k p : ℕ) : Type 0 where
+  pub index : k < length t
+  pub low : (band_at t k).bottom ≤ p
+  pub high : p ≤ (band_at t k).top
 
 module _ (t : List Band) (wf : T (well_formed t)) (p : ℕ) where
+  -- a band that holds a price
+  pub lands_inside_band : (k : ℕ) → Lands 1 p t k → Inside t k p
+  lands_inside_band k l =
+      record {
+        index = l.index;
+        low = ⊎_elim (λ o. omega (arith, o)) (λ e. omega (arith, e.1)) l.over;
+        high = omega (arith, l.under);
+      }
+
+  -- a price in a band lies within the ends
+  pub inside_within : (k : ℕ) → Inside t k p → is_outside p (ladder t) ≡ false
+  inside_within k i =
+      let c = (table_facts t wf).chain in
+      let last = length t - 1 in
+      let bottoms = bottoms_rise (start t) t c 0 k (omega arith) i.index in
+      let tops = tops_rise (start t) t c k last (omega (arith, i.index)) (omega (arith, i.index)) in
+      not_outside (ladder t) (start t) p (start_held t wf)
+      (record {
+        low = omega (arith, first_is_start t wf, bottoms, i.low);
+        high = omega (arith, last_is_top t wf last (omega (arith, i.index)), tops, i.high);
+      })
+
+  -- so that a price is found exactly within the ends, where all bands may be tried
+  pub found_all : (allowed : ℕ) → length t ≤ allowed → is_some (band_of p allowed t) ≡ not (is_outside p (ladder t))
+  found_all allowed enough = go (is_outside p (ladder t)) refl
+    where
+      go : (v : Bool) → is_outside p (ladder t) ≡ v → is_some (band_of p allowed t) ≡ not v
+      go true o =
+          ap is_some
+          (none_found (lands 1 p t) (take allowed (order (length t)))
+          (λ k h on. true≢false (sym o ∙ inside_within k (lands_inside_band k (facts t wf 1 p k h)))))
+      go false o =
+          let ends = within (ladder t) p o in
+          let l = inside_lands t wf 1 p (omega (arith, ends.low)) (omega (arith, ends.high)) in
+          ap is_some (sought_at t wf 1 p allowed enough l.0 l.1)
+
   -- a price that stands in a band is on the ladder
   pub in_band_held : (k : ℕ) → StandsIn t k p → T (holds p (ladder t))
   in_band_held k on = go (index_in t wf k on.index p on)
@@ -34,23 +81,9 @@ module _ (t : List Band) (wf : T (well_formed t)) (p : ℕ) where
       go : Index (band_at t k) p → T (holds p (ladder t))
       go x = rw x.is (entry_on t wf k on.index x.i x.within)
 
-  -- a price within the ends lies in the band where it lands
-  lies : Within (ladder t) p → LiesIn t (bands_below 1 p t) p
-  lies ends =
-      let facts = table_facts t wf in
-      let inside : bands_below 1 p t < length t =
-      lands_inside 1 p (start t) t facts.chain facts.some (omega (arith, last_listed t wf, ends.high)) in
-      record {
-        index = inside;
-        low =
-            ⊎_elim (λ e. omega (arith, first_is_start t wf, ends.low)) (λ l. omega arith)
-            (lands_over 1 p (start t) t facts.chain inside);
-        high = omega (arith, lands_under 1 p t inside);
-      }
-
   module _ (on : T (holds p (ladder t))) where
     -- between two entries of a band no price is on the ladder
-    held_multiple : (k : ℕ) → LiesIn t k p → (p - (band_at t k).bottom) % (band_at t k).spread ≡ 0
+    held_multiple : (k : ℕ) → Inside t k p → (p - (band_at t k).bottom) % (band_at t k).spread ≡ 0
     held_multiple k l = ⊎_elim (λ e. e) (λ r. absurd (between r)) (eq-zero-or-pos ((p - b.bottom) % b.spread))
       where
         b : Band
@@ -67,75 +100,89 @@ module _ (t : List Band) (wf : T (well_formed t)) (p : ℕ) where
             let over : suc i * b.spread + b.bottom ≤ p = (entries_next t wf k l.index i less).gap p on (omega (arith, l.low)) in
             omega (arith, l.low, mod-lt (p - b.bottom) {m = b.spread} w.spreads)
 
-    -- a ladder price stands in the band where it lands
-    stands : StandsIn t (bands_below 1 p t) p
-    stands =
-        let l = lies (within (ladder t) p (held_within (ladder t) (ladder_rises t wf) p on)) in
-        record { index = l.index; low = l.low; high = l.high; multiple = held_multiple (bands_below 1 p t) l }
-
--- ---- what the searches tell their callers
+-- ---- what the search tells its callers
 
 module _ (t : List Band) (wf : T (well_formed t)) (p : ℕ) where
-  band_cases : {C : Type 0} (found : Option ℕ) → found ≡ band_of p t → (is_outside p (ladder t) ≡ true → found ≡ None → C) →
-      (is_outside p (ladder t) ≡ false → found ≡ Some (bands_below 1 p t) → C) → C
-  band_cases {C} found e f g = go (is_outside p (ladder t)) refl e
+  -- of the band found
+  module _ (k : ℕ) (e : Some k ≡ band_of p (length t) t) where
+    pub found_inside : Inside t k p
+    found_inside = lands_inside_band t wf p k (found_lands t wf 1 p k (take (length t) (order (length t))) (sym e)).0
+
+    pub found_lies : last_price (ladder t) < 2147483648 → (b : Band) → b ≡ band_at t k → (inverse : ℕ) → inverse ≡ inverse_of (band_at t k).spread →
+        LiesIn t p (record { index = k; band = b; inverse = inverse })
+    found_lies low b f inverse e =
+        let i = found_inside in
+        let last = length t - 1 in
+        let under = tops_rise (start t) t (table_facts t wf).chain k last (omega (arith, i.index)) (omega (arith, i.index)) in
+        rw f
+        (record {
+          index = i.index;
+          is = refl;
+          low = i.low;
+          high = i.high;
+          low_top = omega (arith, low, last_is_top t wf last (omega (arith, i.index)), under);
+          spread = (is_whole t wf k i.index).spreads;
+          inverse = e;
+        })
+
+    pub found_within : false ≡ is_outside p (ladder t)
+    found_within = sym (inside_within t wf p k found_inside)
+
+  pub none_outside : None ≡ band_of p (length t) t → true ≡ is_outside p (ladder t)
+  none_outside e = go (is_outside p (ladder t)) (ap is_some e ∙ found_all t wf p (length t) (le_refl (length t)))
     where
-      go : (v : Bool) → is_outside p (ladder t) ≡ v → found ≡ cond v None (Some (bands_below 1 p t)) → C
-      go true o i = f o i
-      go false o i = g o i
+      go : (v : Bool) → false ≡ not v → true ≡ v
+      go true i = refl
+      go false i = absurd (grind arith)
 
-  -- from a band that is found: the price lies in it, and a step from the price is answered
-  module _ (k : ℕ) (e : Some k ≡ band_of p t) where
-    pub found_band : k ≡ bands_below 1 p t
-    found_band = band_cases (Some k) e (λ o i. absurd (grind arith)) (λ o i. cc)
+  -- p is on the ladder exactly where it exceeds the bottom of its band by a multiple of its spread
+  module _ (found : Lies) (e : Some found.index ≡ band_of p (length t) t) (lies : LiesIn t p found) where
+    pub stands_where : then_some (eqb ((p - found.band.bottom) % found.band.spread) 0) found.index ≡ standing_of p t
+    stands_where = go (eqb ((p - found.band.bottom) % found.band.spread) 0) refl
+      where
+        inside : Inside t found.index p
+        inside = found_inside found.index e
 
-    pub found_lies : LiesIn t k p
-    found_lies =
-        band_cases (Some k) e (λ o i. absurd (grind arith))
-        (λ o i. let j : k ≡ bands_below 1 p t = cc in rw j (lies t wf p (within (ladder t) p o)))
+        go : (v : Bool) → eqb ((p - found.band.bottom) % found.band.spread) 0 ≡ v → then_some v found.index ≡ standing_of p t
+        go true i =
+            let stood : StandsIn t found.index p =
+            record { index = inside.index; low = inside.low; high = inside.high; multiple = rw lies.is at (eqb-true _ _ i) } in
+            rw (passed (holds p (ladder t)) (in_band_held t wf p found.index stood)) e
+        go false i = rw (failed (holds p (ladder t)) (λ on. eqb-false _ _ i (rw lies.is (held_multiple t wf p on found.index inside))))
 
-    pub found_answers : (number : ℕ) → Some number ≡ if_within p (ladder t) number
-    found_answers number = band_cases (Some k) e (λ o i. absurd (grind arith)) (λ o i. rw o)
+  -- where there is none, p is not on the ladder
+  pub none_stands : true ≡ is_outside p (ladder t) → None ≡ standing_of p t
+  none_stands o = rw (failed (holds p (ladder t)) (λ on. true≢false (o ∙ held_within (ladder t) (ladder_rises t wf) p on)))
 
-    -- 0 spreads lead to the price itself
-    pub found_stays : (step : ℕ → ℕ) (n : ℕ) → n ≡ 0 → Some p ≡ if_within p (ladder t) (times n step p)
-    unfolding times
-    found_stays step n z = rw z (found_answers p)
-
-    -- p is on the ladder exactly where it exceeds the bottom of the band by a multiple of its spread
-    module _ (b : Band) (f : b ≡ band_at t k) where
-      pub found_whole : Whole b
-      found_whole = band_facts t wf k found_lies.index b f
-
-      pub stands_where : then_some (eqb ((p - b.bottom) % b.spread) 0) k ≡ standing_of p t
-      stands_where = go (eqb ((p - b.bottom) % b.spread) 0) refl
-        where
-          go : (v : Bool) → eqb ((p - b.bottom) % b.spread) 0 ≡ v → then_some v k ≡ standing_of p t
-          go true i =
-              let l = found_lies in
-              let stood : StandsIn t k p = record { index = l.index; low = l.low; high = l.high; multiple = rw f at (eqb-true _ _ i) } in
-              rw (passed (holds p (ladder t)) (in_band_held t wf p k stood)) (ap Some found_band)
-          go false i = rw (failed (holds p (ladder t)) (λ on. eqb-false _ _ i (rw f (held_multiple t wf p on k found_lies))))
-
-  -- from none: the price is not on the ladder
-  pub none_stands : None ≡ band_of p t → None ≡ standing_of p t
-  none_stands e =
-      band_cases None e
-      (λ o i. rw (failed (holds p (ladder t)) (λ on. true≢false (sym o ∙ held_within (ladder t) (ladder_rises t wf) p on))))
-      (λ o i. absurd (grind arith))
-
-  standing_cases : {C : Type 0} (s : Option ℕ) → standing_of p t ≡ s → (T (holds p (ladder t)) → s ≡ Some (bands_below 1 p t) → C) →
-      ((T (holds p (ladder t)) → ⊥) → s ≡ None → C) → C
-  standing_cases {C} s e f g = go (holds p (ladder t)) refl e
-    where
-      go : (v : Bool) → holds p (ladder t) ≡ v → cond v (Some (bands_below 1 p t)) None ≡ s → C
-      go true h i = f (rw h tt) (sym i)
-      go false h i = g (λ on. rw h at on) (sym i)
-
+  -- the band in which a ladder price stands
   pub standing_stands : (k : ℕ) → standing_of p t ≡ Some k → StandsIn t k p
-  standing_stands k e =
-      standing_cases (Some k) e (λ on i. let j : k ≡ bands_below 1 p t = cc in rw j (stands t wf p on))
-      (λ off i. absurd (grind arith))
+  standing_stands k e = go (holds p (ladder t)) refl e
+    where
+      go : (v : Bool) → holds p (ladder t) ≡ v → cond v (band_of p (length t) t) None ≡ Some k → StandsIn t k p
+      go true h i =
+          let stood = found_inside k (sym i) in
+          record { index = stood.index; low = stood.low; high = stood.high; multiple = held_multiple t wf p (true_of (holds p (ladder t)) h) k stood }
+      go false h i = absurd (grind arith)
 
   pub standing_off : standing_of p t ≡ None → T (holds p (ladder t)) → ⊥
-  standing_off e = standing_cases None e (λ on i. absurd (grind arith)) (λ off i. off)
+  standing_off e on =
+      let none : band_of p (length t) t ≡ None = rw (passed (holds p (ladder t)) on) at e in
+      true≢false (none_outside (sym none) ∙ held_within (ladder t) (ladder_rises t wf) p on)
+
+  pub stands_held : is_some (standing_of p t) ≡ holds p (ladder t)
+  stands_held = go (holds p (ladder t)) refl
+    where
+      go : (v : Bool) → holds p (ladder t) ≡ v → is_some (cond v (band_of p (length t) t) None) ≡ v
+      go true h =
+          found_all t wf p (length t) (le_refl (length t)) ∙
+          ap not (held_within (ladder t) (ladder_rises t wf) p (true_of (holds p (ladder t)) h))
+      go false h = refl
+
+-- ---- the inverses of the spreads, as the table lends them
+
+module _ (t : List Band) (inverses : List ℕ) (are : inverses ≡ inverses_of t) (k : ℕ) (there : k < length t) where
+  pub inverse_there : k < length inverses
+  inverse_there = omega (arith, ap length are, length-map t (λ b. inverse_of b.spread), there)
+
+  pub inverse_is : get_or inverses k 0 ≡ inverse_of (band_at t k).spread
+  inverse_is = ap (λ l. get_or l k 0) are ∙ get_or-map (λ b. inverse_of b.spread) t k no_band 0 there

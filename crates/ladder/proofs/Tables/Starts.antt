@@ -1,6 +1,5 @@
 -- Where a walk starts: on the price itself if it is a ladder price, and else on the ladder price behind it. From there the first spread ends where
 -- it ends from the price itself, so that any number of spreads does, unless it is 0.
-use Rattle.std.specs.Prelude.{Some}
 use mathlib.Core.Path.{◌≡◌, refl, ap, sym, ◌∙◌}
 use Prim.Native.Nat.{ℕ, zero, suc, ◌+◌, ◌-◌, ◌*◌, ◌/◌, ◌%◌, ◌≤◌, ◌<◌}
 use native.Mathlib.Nat.{lt_irrefl, div-add-mod', mod-lt, eq-zero-or-pos, add-sub_cancel, mul-mod_left, mul-sub, le_of_mul-le-mul_right, lt_of_mul-lt-mul_right}
@@ -12,11 +11,12 @@ use Rattle.tables.specs.declared.Band.{Band}
 use Rattle.tables.specs.Bands.{well_formed}
 use Rattle.ladder.specs.Ladder.{width, ladder}
 use Rattle.ladder.specs.Spreads.{spread_up, spread_down, times}
-use Rattle.ladder.specs.Arithmetic.{band_of, LiesIn, StandsIn}
+use Rattle.ladder.specs.declared.search.Lies.{Lies}
+use Rattle.ladder.specs.Arithmetic.{LiesIn, StandsIn}
 use Rattle.ladder.proofs.Lists.Moves.{spread_up_lem, spread_down_lem, up_between, down_between}
 use Rattle.ladder.proofs.Tables.Chain.{Whole, band_at}
 use Rattle.ladder.proofs.Tables.Table.{ladder_rises, entries_next, is_whole}
-use Rattle.ladder.proofs.Tables.Stands.{found_lies}
+use Rattle.ladder.proofs.Tables.Stands.{Inside}
 
 -- a walk from p may start at `at`
 pub record Start (step : ℕ → ℕ) (t : List Band) (k p at : ℕ) : Type 0 where
@@ -29,7 +29,7 @@ unfolding times
 same_first step at p e zero h = absurd (lt_irrefl 0 h)
 same_first step at p e (suc n) h = ap (times n step) e
 
-module _ (t : List Band) (wf : T (well_formed t)) (k p : ℕ) (lies : LiesIn t k p) where
+module _ (t : List Band) (wf : T (well_formed t)) (k p : ℕ) (lies : Inside t k p) where
   abbrev here : Band
   here = band_at t k
 
@@ -115,10 +115,13 @@ module _ (t : List Band) (wf : T (well_formed t)) (k p : ℕ) (lies : LiesIn t k
           (spread_down_lem (ladder t) (ladder_rises t wf) _ _ next ∙
           sym (down_between (ladder t) (ladder_rises t wf) _ _ next p (omega (arith, upper)) (omega (arith, upper))))
 
--- the search found band k for p, and the code reads it as b
-module _ (t : List Band) (wf : T (well_formed t)) (p k : ℕ) (e : Some k ≡ band_of p t) (b : Band) (f : b ≡ band_at t k) where
-  pub starts_up : Start (spread_up (ladder t)) t k p (p - (p - b.bottom) % b.spread)
-  starts_up = rw f (up_here t wf k p (found_lies t wf p k e))
+-- the price lies in the band found
+module _ (t : List Band) (wf : T (well_formed t)) (p : ℕ) (found : Lies) (lies : LiesIn t p found) where
+  inside : Inside t found.index p
+  inside = record { index = lies.index; low = rw lies.is at lies.low; high = rw lies.is at lies.high }
 
-  pub starts_down : Start (spread_down (ladder t)) t k p (p + (b.top - p) % b.spread)
-  starts_down = rw f (down_here t wf k p (found_lies t wf p k e))
+  pub starts_up : (over : ℕ) → over ≡ (p - found.band.bottom) % found.band.spread → Start (spread_up (ladder t)) t found.index p (p - over)
+  starts_up over e = rw (e, lies.is) (up_here t wf found.index p inside)
+
+  pub starts_down : (under : ℕ) → under ≡ (found.band.top - p) % found.band.spread → Start (spread_down (ladder t)) t found.index p (p + under)
+  starts_down under e = rw (e, lies.is) (down_here t wf found.index p inside)

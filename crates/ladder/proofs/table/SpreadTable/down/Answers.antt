@@ -1,35 +1,18 @@
 -- n spreads down: none from a price outside the ends; the price itself for 0; else a walk from the ladder price at it or behind it.
 use Rattle.std.proofs.Common.{Some, ◌∙◌, ap, arith}
-use Rattle.ladder.proofs.Tables.Stands.{found_lies, found_whole, found_stays, found_answers}
+use Rattle.ladder.proofs.Lists.Ends.{answers, stays}
 use Rattle.ladder.proofs.Tables.Starts.{starts_down}
 use Rattle.ladder.proofs.table.SpreadTable.down.Goals as goal
 
 pub returns-then-n-eq0 : goal.returns-then-n-eq0
-returns-then-n-eq0 c =
-    found_stays c.args.self.now.bands.now c.args.self.now.is_well_formed c.args.price _ c.in_ok-index.ensures _ _ c.if-n-eq0.true
-
--- the price lies in the band found
-pub band_at-band-requires : goal.band_at-band-requires
-band_at-band-requires c =
-    (found_lies c.args.self.now.bands.now c.args.self.now.is_well_formed c.args.price _ c.in_ok-index.ensures).index
-
-pub overflow_sub-behind : goal.overflow_sub-behind
-overflow_sub-behind c =
-    rw c.band_at-band.ensures (found_lies c.args.self.now.bands.now c.args.self.now.is_well_formed c.args.price _ c.in_ok-index.ensures).high
-
-pub nonzero_rem-behind : goal.nonzero_rem-behind
-nonzero_rem-behind c =
-    (found_whole c.args.self.now.bands.now c.args.self.now.is_well_formed c.args.price _ c.in_ok-index.ensures _ c.band_at-band.ensures).spreads
+returns-then-n-eq0 c = stays _ c.args.price c.in_ok-found.ensures.missing _ c.args.n c.if-n-eq0.true
 
 -- the walk starts behind
 pub walk_down-requires : goal.walk_down-requires
-walk_down-requires c =
-    (starts_down c.args.self.now.bands.now c.args.self.now.is_well_formed c.args.price _ c.in_ok-index.ensures _ c.band_at-band.ensures).stands
+walk_down-requires c = (starts_down c.args.self.now.bands.now c.args.self.now.is_well_formed c.args.price _ c.in_ok-found.ensures.lies _ c.remainder.ensures).stands
 
 pub returns : goal.returns
 returns c =
-    let t = c.args.self.now.bands.now in
-    let wf = c.args.self.now.is_well_formed in
-    let start = starts_down t wf c.args.price _ c.in_ok-index.ensures _ c.band_at-band.ensures in
+    let start = starts_down c.args.self.now.bands.now c.args.self.now.is_well_formed c.args.price _ c.in_ok-found.ensures.lies _ c.remainder.ensures in
     ap Some (c.walk_down.ensures ∙ start.leads c.args.n (omega (arith, c.if-n-eq0.false))) ∙
-    found_answers t wf c.args.price _ c.in_ok-index.ensures _
+    answers _ c.args.price c.in_ok-found.ensures.missing _
