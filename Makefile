@@ -6,7 +6,7 @@
 
 PREFIX = /usr/local
 DESTDIR =
-VERSION = 1.4.0
+VERSION = 1.5.0
 
 CFLAGS = -O2
 STRICT = -std=c11 -Wall -Wextra -Wpedantic -Wconversion -Werror
@@ -21,7 +21,7 @@ PLAIN = $(wildcard host/plain/*.c host/draw/*.c)
 PLAIN_HEADERS = $(wildcard host/plain/*.h host/draw/*.h)
 TESTS = $(wildcard host/tests/*.c)
 ASK = $(wildcard tools/*.c)
-BENCH = $(addprefix bench/, bench.c programs.c days.c mixes.c quick.c quick_day.c)
+BENCH = $(addprefix bench/, bench.c programs.c days.c prepared.c mixes.c quick.c quick_day.c)
 LINES = build/plaincheck build/drawn build/dribble build/breaks build/memory
 INCLUDES = -Iinclude -Ihost/plain -Ihost/draw
 
@@ -60,7 +60,7 @@ $(LINES): build/%: host/lines/%.c $(PLAIN) $(PLAIN_HEADERS)
 	mkdir -p build
 	$(CC) $(STRICT) $(CFLAGS) $(INCLUDES) $< $(PLAIN) -o $@
 
-build/gateway build/feed: build/%: examples/%.c $(LIBRARY) $(HEADER)
+build/gateway build/feed build/slider: build/%: examples/%.c $(LIBRARY) $(HEADER)
 	$(CC) $(STRICT) $(CFLAGS) -Iinclude $< $(LIBRARY) -o $@
 
 build/bench: $(LIBRARY) $(HEADER) $(BENCH) $(wildcard bench/*.h) $(PLAIN) $(PLAIN_HEADERS)
@@ -77,7 +77,7 @@ build/quickcheck: bench/quickcheck.c bench/quick.c bench/quick.h bench/quick_par
 	mkdir -p build
 	$(CC) $(STRICT) -O3 bench/quickcheck.c bench/quick.c -o $@
 
-check: all build/host-tests build/gateway build/feed $(LINES) build/bench build/quickcheck build/asked build/judged
+check: all build/host-tests build/gateway build/feed build/slider $(LINES) build/bench build/quickcheck build/asked build/judged
 	host/run
 
 demo: all

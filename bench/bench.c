@@ -2,7 +2,7 @@
  * Speed: the library's batch against a plain C judge written for speed, on the
  * same questions, turn by turn in one run, of each the best round; and the day
  * book and the program likewise. Batches that name a table are timed beside
- * those that name none.
+ * those that name none, and a prepared question beside whole questions.
  */
 #define _POSIX_C_SOURCE 199309L
 #include <stdio.h>
@@ -14,6 +14,7 @@
 #include "hendovita.h"
 #include "mixes.h"
 #include "plain.h"
+#include "prepared.h"
 #include "programs.h"
 #include "quick.h"
 
@@ -172,12 +173,23 @@ static void run_days(void)
     time_fills(any);
 }
 
+static void run_prepared(void)
+{
+    printf("a question prepared once and judged at 500 order prices, against "
+           "500 questions, ns\n"
+           "              first second  whole  second     both\n"
+           "               part   part         to whole to whole\n");
+    time_prepared((struct price_mix){"usual", mix_usual, mix_usual_price});
+    time_prepared((struct price_mix){"random", mix_random, mix_random_price});
+}
+
 int main(void)
 {
     plain_begin();
     run("usual orders over 0.50 to 50", mix_usual);
     run("random over the whole ladder, a fifth damaged", mix_random);
     run_tables();
+    run_prepared();
     run_days();
     printf("the program, from a file of questions to lines\n"
            "             pricecheck      plain C   ratio\n"

@@ -24,6 +24,13 @@ static void set_day(struct draw *draw, struct hendovita_question *q,
     q->nominal = near(draw, price, 2);
 }
 
+static uint32_t near_quotes(struct draw *draw, uint8_t side, uint32_t bid,
+                            uint32_t ask)
+{
+    return side == HENDOVITA_BUY ? plain_down(ask, draw_below(draw, 26))
+                                 : plain_up(bid, draw_below(draw, 26));
+}
+
 void mix_usual(struct draw *draw, uint8_t question[40])
 {
     uint32_t bid = draw_between(draw, 510, 50000);
@@ -35,9 +42,7 @@ void mix_usual(struct draw *draw, uint8_t question[40])
     q.current_bid = bid;
     q.current_ask = plain_up(bid, 1 + draw_below(draw, 3));
     set_day(draw, &q, bid);
-    q.price = q.side == HENDOVITA_BUY
-        ? plain_down(q.current_ask, draw_below(draw, 26))
-        : plain_up(q.current_bid, draw_below(draw, 26));
+    q.price = near_quotes(draw, q.side, q.current_bid, q.current_ask);
     if (draw_one_in(draw, 10)) {
         q.queue = HENDOVITA_BUY_QUEUE_ONLY;
         q.current_ask = 0;
@@ -53,6 +58,19 @@ static uint32_t anywhere(struct draw *draw)
 static uint32_t maybe(struct draw *draw)
 {
     return draw_one_in(draw, 3) ? 0 : anywhere(draw);
+}
+
+uint32_t mix_usual_price(struct draw *draw, const uint8_t question[40])
+{
+    uint32_t bid = hendovita_get_number(question + 8);
+    uint32_t ask = hendovita_get_number(question + 12);
+    return near_quotes(draw, question[0], bid, ask != 0 ? ask : bid);
+}
+
+uint32_t mix_random_price(struct draw *draw, const uint8_t question[40])
+{
+    (void)question;
+    return anywhere(draw);
 }
 
 static void set_quotes(struct draw *draw, struct hendovita_question *q)

@@ -24,6 +24,10 @@ void mix_usual(struct draw *draw, uint8_t question[40]);
  */
 void mix_random(struct draw *draw, uint8_t question[40]);
 
+/* An order price against such a question: near the quotes; anywhere. */
+uint32_t mix_usual_price(struct draw *draw, const uint8_t question[40]);
+uint32_t mix_random_price(struct draw *draw, const uint8_t question[40]);
+
 /*
  * An event as they mostly come: a bid or an ask a few spreads from the other
  * one, now and then a trade at one of them, seldom an empty queue. All are

@@ -309,6 +309,68 @@ struct hendovita_answer hendovita_judge_question_on(uint32_t table,
                                                     size_t len);
 
 /*
+ * Judging in two parts, for many order prices against the same references: the
+ * first part takes the question, once, and the second each price. Together
+ * they give what hendovita_judge_question gives.
+ *
+ * What the first part gives: 0, the range that the rules permit, from one
+ * ladder price to another, and the reference of the nine-fold rule, 0 where it
+ * is missing. That rule has not cut the range yet. 0 says that there is a
+ * range; it accepts no price. Or a number that says why there is no range, and
+ * three zeros.
+ */
+struct hendovita_prepared {
+    uint32_t number, lowest, highest, nine_fold;
+};
+
+/*
+ * The first part. The order price, bytes 4 to 7, is not looked at.
+ *
+ * 1 (HENDOVITA_BAD_LENGTH): question_len is not 40. With 40 bytes, 0 with the
+ * range, or 2 to 5.
+ */
+HENDOVITA_CHECK_RESULT
+struct hendovita_prepared hendovita_prepare(const uint8_t *question,
+                                            size_t question_len);
+
+/* The same on the table that a number names. With 40 bytes, and a number that
+ * names none: 14 (HENDOVITA_UNKNOWN_TABLE). */
+HENDOVITA_CHECK_RESULT
+struct hendovita_prepared hendovita_prepare_on(uint32_t table,
+                                               const uint8_t *question,
+                                               size_t question_len);
+
+/*
+ * The second part: the answer to an order price against what the first part
+ * gave, on the same table. It answers 0 or 6 to 10, with the range that is
+ * shown.
+ *
+ * The three numbers may be any, whoever made them: the lowest above the
+ * highest, off the ladder, beyond its ends. After 6 and 7, 8 is a price below
+ * the lowest, 9 one above the highest, 10 one that fails against the nine-fold
+ * reference, of which 0 is missing and lets all pass. So a price is accepted
+ * where it is a ladder price from the lowest to the highest given that passes;
+ * shown are the first and the last of these, or 0 and 0 where there is none.
+ *
+ * A first part that gave another number than 0 is not to be handed on: its
+ * zeros are judged as a range, and every price on the ladder gets 9.
+ */
+HENDOVITA_CHECK_RESULT
+struct hendovita_answer hendovita_judge_prepared(uint32_t lowest,
+                                                 uint32_t highest,
+                                                 uint32_t nine_fold,
+                                                 uint32_t price);
+
+/* The same on the table that a number names. By a number that names none: 14
+ * (HENDOVITA_UNKNOWN_TABLE) with 0 and 0. */
+HENDOVITA_CHECK_RESULT
+struct hendovita_answer hendovita_judge_prepared_on(uint32_t table,
+                                                    uint32_t lowest,
+                                                    uint32_t highest,
+                                                    uint32_t nine_fold,
+                                                    uint32_t price);
+
+/*
  * The answer to an off-System trade, given the previous close and the lowest
  * and highest bid and ask of the day so far. After the trade price, 0 means
  * missing. The trade price need not be a ladder price, and the nine-fold rule

@@ -122,7 +122,7 @@ static uint32_t nine_fold_away(struct draw *draw, uint32_t price)
 
 uint32_t draw_far_nominal(struct draw *draw, const uint8_t question[40])
 {
-    struct plain_answer range = plain_permitted(question);
+    struct plain_prepared range = plain_prepare(question);
     if (range.number != 0)
         return field_of(question, NOMINAL);
     uint32_t price = range.lowest;
@@ -210,14 +210,12 @@ static void put_fault(struct draw *draw, struct form *form)
 /* A price at an end of either range, at an edge of the nine-fold rule, or
  * at a reference, then shifted a little or not at all. */
 static uint32_t price_at_edge(struct draw *draw, const uint8_t question[40],
-                              struct plain_answer permitted,
+                              struct plain_prepared permitted,
                               struct plain_answer shown)
 {
-    uint32_t against =
-        field_of(question, question[QUEUE] == OPENING ? CLOSE : NOMINAL);
     uint32_t edge[7] = {
         permitted.lowest, permitted.highest, shown.lowest, shown.highest,
-        9 * against, against / 9,
+        9 * permitted.nine_fold, permitted.nine_fold / 9,
         field_of(question, BID + draw_below(draw, FIELDS - BID)),
     };
     return draw_shifted(draw, edge[draw_below(draw, 7)]);
@@ -225,7 +223,7 @@ static uint32_t price_at_edge(struct draw *draw, const uint8_t question[40],
 
 uint32_t draw_order_price(struct draw *draw, const uint8_t question[40])
 {
-    struct plain_answer permitted = plain_permitted(question);
+    struct plain_prepared permitted = plain_prepare(question);
     struct plain_answer shown = plain_question(question);
 
     if (draw_one_in(draw, 25))

@@ -7,7 +7,6 @@ static void use(uint32_t table)
 {
     plain_use_ladder(table - 1);
     plain_use_limits(table - 1);
-    plain_use_nine_fold(table - 1);
 }
 
 void plain_begin(void)
@@ -16,7 +15,6 @@ void plain_begin(void)
         use(table);
         plain_begin_ladder();
         plain_begin_limits();
-        plain_begin_nine_fold();
     }
     use(PLAIN_PHASE_1);
 }

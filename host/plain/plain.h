@@ -74,12 +74,22 @@ uint32_t plain_five_percent_upper(uint32_t reference);
 uint32_t plain_lower_limit(uint32_t reference);
 uint32_t plain_upper_limit(uint32_t reference);
 
-/* The answer to a question. */
-struct plain_answer plain_question(const uint8_t question[40]);
+/* A question without its order price: 2 to 5 and three times 0 if it is
+ * refused, or else 0, the permitted range, not cut by the nine-fold rule, and
+ * the price against which that rule is held, which may be missing. */
+struct plain_prepared {
+    uint32_t number, lowest, highest, nine_fold;
+};
 
-/* The same question without looking at the order price: 2 to 5 if it is
- * refused, or else 0 and the permitted range, not cut by the nine-fold rule. */
-struct plain_answer plain_permitted(const uint8_t question[40]);
+struct plain_prepared plain_prepare(const uint8_t question[40]);
+
+/* The answer to an order price, given a range and a price for the nine-fold
+ * rule. They may be any numbers, and each is taken as it is. */
+struct plain_answer plain_judge_prepared(uint32_t lowest, uint32_t highest,
+                                         uint32_t nine_fold, uint32_t price);
+
+/* The answer to a question: it is prepared, then its order price is judged. */
+struct plain_answer plain_question(const uint8_t question[40]);
 
 /* The answer to an off-System trade. */
 struct plain_answer plain_trade(uint32_t price, uint32_t previous_close,

@@ -147,15 +147,16 @@ bool plain_within_ends(uint32_t price)
     return PLAIN_FIRST <= price && price <= PLAIN_LAST;
 }
 
-uint32_t plain_at_or_above(uint32_t price)
+int32_t plain_at_or_above(uint32_t price)
 {
-    return ladder->at_or_above[price];
+    return price <= PLAIN_LAST ? (int32_t)ladder->at_or_above[price]
+                               : (int32_t)ladder->count;
 }
 
-uint32_t plain_at_or_below(uint32_t price)
+int32_t plain_at_or_below(uint32_t price)
 {
-    uint32_t place = ladder->at_or_above[price];
-    return ladder->list[place] == price ? place : place - 1;
+    int32_t place = plain_place(price);
+    return place >= 0 ? place : plain_at_or_above(price) - 1;
 }
 
 /* The place of the first entry above a price. The last price has none above

@@ -35,22 +35,21 @@ struct plain_range {
     uint32_t lowest, highest;
 };
 
-/* plain_ladder.c, plain_limits.c, plain_nine_fold.c: the parts of plain_use, by
- * the table counted from 0, and of plain_begin, to be called in this order, for
- * the table in use. */
+/* plain_ladder.c, plain_limits.c: the parts of plain_use, by the table counted
+ * from 0, and of plain_begin, to be called in this order, for the table in
+ * use. */
 void plain_use_ladder(uint32_t table);
 void plain_use_limits(uint32_t table);
-void plain_use_nine_fold(uint32_t table);
 void plain_begin_ladder(void);
 void plain_begin_limits(void);
-void plain_begin_nine_fold(void);
 
-/* plain_ladder.c: is a price within the ends of the ladder, both included? If
- * so, the place of the first entry that is not below it, and of the last that
- * is not above it. */
+/* plain_ladder.c: is a price within the ends of the ladder, both included? */
 bool plain_within_ends(uint32_t price);
-uint32_t plain_at_or_above(uint32_t price);
-uint32_t plain_at_or_below(uint32_t price);
+
+/* Of any number: the place of the first entry that is not below it, one past
+ * the list if each is; and of the last that is not above it, -1 if each is. */
+int32_t plain_at_or_above(uint32_t price);
+int32_t plain_at_or_below(uint32_t price);
 
 /* plain_reference.c */
 bool plain_missing(uint32_t reference);
@@ -60,9 +59,9 @@ bool plain_bad_pair(uint32_t low, uint32_t high);
 uint32_t plain_least(uint32_t a, uint32_t b, uint32_t c);
 uint32_t plain_greatest(uint32_t a, uint32_t b, uint32_t c);
 
-/* plain_nine_fold.c */
-bool plain_passes(uint32_t price, uint32_t against);
-struct plain_range plain_shown(struct plain_range permitted, uint32_t against);
+/* plain_nine_fold.c: these take any numbers at all. */
+bool plain_passes(uint32_t price, uint32_t n);
+struct plain_range plain_shown(struct plain_range range, uint32_t n);
 
 /* plain_range.c */
 bool plain_has_bid(const struct plain_order *order);

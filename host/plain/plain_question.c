@@ -1,6 +1,7 @@
 /*
  * The judging of a question: its bytes are read, the checks run in number
- * order, and the first that applies is the answer.
+ * order, and the first that applies is the answer. Up to 5 they do not look at
+ * the order price; plain_prepared.c has the rest.
  */
 #include "plain_parts.h"
 
@@ -68,7 +69,7 @@ static bool references_disagree(const struct plain_order *order)
     return plain_bad_pair(order->day_low, order->day_high);
 }
 
-/* Checks 2 to 5, which do not look at the order price; 0 if none applies. */
+/* Checks 2 to 5; 0 if none applies. */
 static uint32_t refusal(const struct plain_order *order)
 {
     if (unknown_code(order))
@@ -89,43 +90,23 @@ static uint32_t nine_fold_against(const struct plain_order *order)
                                          : order->nominal;
 }
 
-/* Checks 6 to 10 of an order price; 0 is acceptance. */
-static uint32_t judge_price(uint32_t price, struct plain_range permitted,
-                            uint32_t against)
-{
-    if (!plain_within_ends(price))
-        return 6;
-    if (plain_place(price) < 0)
-        return 7;
-    if (price < permitted.lowest)
-        return 8;
-    if (price > permitted.highest)
-        return 9;
-    if (!plain_passes(price, against))
-        return 10;
-    return 0;
-}
-
-struct plain_answer plain_permitted(const uint8_t question[40])
+struct plain_prepared plain_prepare(const uint8_t question[40])
 {
     struct plain_order order = read_order(question);
     uint32_t refused = refusal(&order);
     if (refused != 0)
-        return (struct plain_answer){refused, 0, 0};
+        return (struct plain_prepared){refused, 0, 0, 0};
     struct plain_range permitted = plain_order_range(&order);
-    return (struct plain_answer){0, permitted.lowest, permitted.highest};
+    return (struct plain_prepared){0, permitted.lowest, permitted.highest,
+                                   nine_fold_against(&order)};
 }
 
 struct plain_answer plain_question(const uint8_t question[40])
 {
-    struct plain_answer first = plain_permitted(question);
-    if (first.number != 0)
-        return first;
-
+    struct plain_prepared prepared = plain_prepare(question);
+    if (prepared.number != 0)
+        return (struct plain_answer){prepared.number, 0, 0};
     struct plain_order order = read_order(question);
-    struct plain_range permitted = {first.lowest, first.highest};
-    uint32_t against = nine_fold_against(&order);
-    uint32_t number = judge_price(order.price, permitted, against);
-    struct plain_range shown = plain_shown(permitted, against);
-    return (struct plain_answer){number, shown.lowest, shown.highest};
+    return plain_judge_prepared(prepared.lowest, prepared.highest,
+                                prepared.nine_fold, order.price);
 }

@@ -27,6 +27,15 @@ int main()
     const uint32_t filled = hendovita_fill_question(
         quoted.day, HENDOVITA_BUY, HENDOVITA_LIMIT, 19890, 0, question,
         sizeof question);
+    const hendovita_prepared once =
+        hendovita_prepare(asked_bytes, sizeof asked_bytes);
+    const hendovita_answer slid = hendovita_judge_prepared(
+        once.lowest, once.highest, once.nine_fold, 18890);
+    const hendovita_prepared unprepared = hendovita_prepare_on(
+        HENDOVITA_BEFORE_PHASE_1, asked_bytes, sizeof asked_bytes);
+    const hendovita_answer older = hendovita_judge_prepared_on(
+        HENDOVITA_BEFORE_PHASE_1, once.lowest, once.highest, once.nine_fold,
+        19890);
     const hendovita_outcome before = hendovita_judge_batch_on(
         HENDOVITA_BEFORE_PHASE_1, asked_bytes, sizeof asked_bytes, other,
         sizeof other);
@@ -38,6 +47,11 @@ int main()
         && hendovita_get_answer(answer).lowest == 18900
         && one.lowest == 18900 && one.highest == 19900
         && trade.number == HENDOVITA_ACCEPTED && trade.lowest == 9500
+        && once.number == 0 && once.lowest == 18900
+        && once.highest == 19900 && once.nine_fold == 0
+        && slid.number == HENDOVITA_BELOW_LOWEST && slid.lowest == 18900
+        && unprepared.number == HENDOVITA_REFERENCE_OFF_LADDER
+        && older.number == HENDOVITA_BETWEEN_PRICES && older.lowest == 18900
         && fresh.day.previous_close == 20000 && quoted.day.last_bid == 19890
         && filled == HENDOVITA_ACCEPTED
         && question[2] == HENDOVITA_BUY_QUEUE_ONLY

@@ -156,6 +156,7 @@ static void same_question(const struct hendovita_question *question,
     uint8_t bytes[40];
     hendovita_put_question(bytes, question);
     report_question("alone", bytes, on_question(bytes, 40), due);
+    report_question("in two parts", bytes, on_two_parts(bytes), due);
     report_question("by the plain count", bytes,
                     counted(plain_question(bytes)), due);
 }

@@ -1,5 +1,6 @@
 /*
- * The header by itself: constants, texts, questions and answers as bytes.
+ * The header by itself: constants, texts, questions and answers as bytes, what
+ * a prepared question has.
  */
 #include <string.h>
 
@@ -105,10 +106,24 @@ static void test_answer_bytes(void)
     report_same("highest", answer.highest, 0xff0000ff);
 }
 
+static void test_prepared_numbers(void)
+{
+    const struct hendovita_prepared prepared = {
+        .number = 1, .lowest = 2, .highest = 3, .nine_fold = 4,
+    };
+    uint32_t numbers[4];
+    report_begin("a prepared question is four numbers, in this order");
+    report_same("bytes", sizeof prepared, sizeof numbers);
+    memcpy(numbers, &prepared, sizeof numbers);
+    for (uint32_t i = 0; i < 4; i++)
+        report_same("number", numbers[i], i + 1);
+}
+
 void test_interface(void)
 {
     test_numbers();
     test_codes();
     test_question_bytes();
     test_answer_bytes();
+    test_prepared_numbers();
 }

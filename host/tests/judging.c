@@ -4,12 +4,13 @@
 #include <string.h>
 
 #include "draw.h"
+#include "every.h"
 #include "on.h"
 #include "report.h"
 #include "seen.h"
 #include "tests.h"
 
-enum { BATCH = 1000, BATCHES = 2000, TRADES = 500000, SETS = 5 };
+enum { BATCH = 1000, BATCHES = 2000, TRADES = 500000 };
 enum { CROSSED = 200000 }; /* drawn on each other table */
 
 static void same_answer(const uint8_t question[40])
@@ -18,53 +19,10 @@ static void same_answer(const uint8_t question[40])
                     plain_question(question));
 }
 
-/* Every code around the known ones, with one set of references. */
-static void every_code(uint8_t question[40])
-{
-    for (uint8_t side = 0; side <= 3; side++)
-        for (uint8_t type = 0; type <= 4; type++)
-            for (uint8_t queue = 0; queue <= 6; queue++)
-                for (uint8_t zero = 0; zero <= 1; zero++) {
-                    question[0] = side;
-                    question[1] = type;
-                    question[2] = queue;
-                    question[3] = zero;
-                    same_answer(question);
-                }
-}
-
 static void test_every_code(void)
 {
-    /* order price, then the eight references where they are present; the last
-     * two sets have ladder prices of table 3 alone, and of table 1 alone */
-    static const uint32_t fields[SETS][9] = {
-        {2500, 2480, 2490, 2470, 2510, 2500, 2400, 2600, 2500},
-        {500, 490, 500, 480, 510, 495, 450, 550, 60},
-        {10, 10, 11, 12, 9995000, 20000, 250, 10000, 9995000},
-        {2505, 2495, 2505, 2485, 2510, 2501, 2405, 2600, 2504},
-        {25050, 25000, 25050, 24950, 25100, 25020, 24000, 25150, 25010},
-    };
-    uint8_t question[40];
     on_begin("every code with every set of missing references");
-    for (uint32_t i = 0; i < SETS; i++)
-        for (uint32_t present = 0; present < 256; present++) {
-            for (uint32_t f = 0; f < 9; f++) {
-                uint32_t given = f == 0 || (present >> (f - 1) & 1) != 0;
-                hendovita_put_number(question + 4 + 4 * f,
-                                     given ? fields[i][f] : 0);
-            }
-            every_code(question);
-        }
-}
-
-/* The draw is to reach each of these numbers often. */
-static void often(const uint32_t counts[11], const uint32_t *numbers,
-                  size_t many, uint32_t least)
-{
-    for (size_t i = 0; i < many; i++)
-        if (counts[numbers[i]] < least)
-            report_say("  only %u answered %u", counts[numbers[i]],
-                       numbers[i]);
+    every_question(same_answer);
 }
 
 /* Of a reference that may lie between ladder prices, and of one that may not,
@@ -114,7 +72,7 @@ static void test_drawn_questions(void)
             draw_question(&draw, questions + 40 * k);
         same_batch(questions, counts, &seen);
     }
-    often(counts, numbers, sizeof numbers / sizeof *numbers, 50000);
+    seen_numbers(counts, numbers, sizeof numbers / sizeof *numbers, 50000);
     seen_loose(&seen, SEEN_CLOSE);
     seen_loose(&seen, SEEN_NOMINAL);
     for (uint32_t i = SEEN_BID; i <= SEEN_LAST_ASK; i++)
@@ -155,7 +113,7 @@ static void test_drawn_trades(void)
         seen_trade(&seen, f, due);
         report_trade(f, on_trade(f), due);
     }
-    often(counts, numbers, sizeof numbers / sizeof *numbers, 20000);
+    seen_numbers(counts, numbers, sizeof numbers / sizeof *numbers, 20000);
     seen_loose(&seen, SEEN_TRADE_CLOSE);
     for (uint32_t i = SEEN_LOWEST_BID; i <= SEEN_HIGHEST_ASK; i++)
         seen_strict(&seen, i);
@@ -189,7 +147,7 @@ static void test_drawn_on_others(void)
     for (uint32_t other = 1; other <= PLAIN_TABLES; other++)
         if (other != on_which())
             drawn_on(other, counts);
-    often(counts, numbers, sizeof numbers / sizeof *numbers, 10000);
+    seen_numbers(counts, numbers, sizeof numbers / sizeof *numbers, 10000);
 }
 
 void test_judging(void)

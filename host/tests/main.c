@@ -14,6 +14,8 @@ int main(void)
     test_tables();
     test_unknown();
     test_judging();
+    test_prepared();
+    test_strangers();
     test_closes();
     test_walk();
     test_refusals();

@@ -38,6 +38,17 @@ static void refuse(const uint8_t *questions, size_t n, uint8_t *answers)
         report_same("byte", answers[i], 0xa5);
 }
 
+/* Prepares the 40 bytes that stand there, and refuses fewer of them. */
+static void prepare(const uint8_t *begin, const uint8_t *end)
+{
+    static const struct plain_prepared refused = {1, 0, 0, 0};
+    report_prepared("prepared", begin, on_prepare(begin, 40),
+                    plain_prepare(begin));
+    for (size_t len = 0; len < 40; len++)
+        report_prepared("a part of it", begin, on_prepare(end - len, len),
+                        refused);
+}
+
 static void test_guard_pages(uint8_t *questions, uint8_t *answers,
                              const uint8_t drawn[40000])
 {
@@ -54,6 +65,8 @@ static void test_guard_pages(uint8_t *questions, uint8_t *answers,
         report_question("alone", questions + BYTES - 40,
                         on_question(questions + BYTES - 40, 40),
                         plain_question(questions + BYTES - 40));
+        prepare(questions, questions + BYTES);
+        prepare(questions + BYTES - 40, questions + BYTES);
     }
 }
 
@@ -63,6 +76,10 @@ static void test_alignment(uint8_t *questions, uint8_t *answers,
     on_begin("questions and answers at every alignment");
     for (size_t i = 0; i < 16; i++) {
         memcpy(questions + i, drawn, 40 * 50);
+        for (size_t k = 0; k < 50; k++)
+            report_prepared("prepared", questions + i + 40 * k,
+                            on_prepare(questions + i + 40 * k, 40),
+                            plain_prepare(drawn + 40 * k));
         for (size_t j = 0; j < 16; j++)
             judge(questions + i, 50, answers + j);
     }
@@ -89,6 +106,10 @@ static void test_no_bytes(uint8_t *questions, uint8_t *answers)
     report_same("number without a buffer", outcome.number, 1);
     report_same("number of no question",
                 on_question(NULL, 0).number, 1);
+    report_same("number of no question, prepared",
+                on_prepare(NULL, 0).number, 1);
+    report_same("number of no question at a guard page, prepared",
+                on_prepare(questions + BYTES, 0).number, 1);
 }
 
 static uint8_t *questions, *answers;

@@ -115,6 +115,21 @@ struct hendovita_answer on_question(const uint8_t *question, size_t len)
                          : hendovita_judge_question_on(table, question, len);
 }
 
+struct hendovita_prepared on_prepare(const uint8_t *question, size_t len)
+{
+    return table == NONE ? hendovita_prepare(question, len)
+                         : hendovita_prepare_on(table, question, len);
+}
+
+struct hendovita_answer on_judge_prepared(uint32_t lowest, uint32_t highest,
+                                          uint32_t nine_fold, uint32_t price)
+{
+    return table == NONE
+        ? hendovita_judge_prepared(lowest, highest, nine_fold, price)
+        : hendovita_judge_prepared_on(table, lowest, highest, nine_fold,
+                                      price);
+}
+
 struct hendovita_answer on_trade(const uint32_t f[6])
 {
     return table == NONE
@@ -131,4 +146,13 @@ struct hendovita_outcome on_batch(const uint8_t *questions,
                                 answers_len)
         : hendovita_judge_batch_on(table, questions, questions_len, answers,
                                    answers_len);
+}
+
+struct hendovita_answer on_two_parts(const uint8_t question[40])
+{
+    struct hendovita_prepared first = on_prepare(question, 40);
+    if (first.number != 0)
+        return (struct hendovita_answer){first.number, 0, 0};
+    return on_judge_prepared(first.lowest, first.highest, first.nine_fold,
+                             hendovita_get_number(question + 4));
 }

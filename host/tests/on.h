@@ -41,9 +41,16 @@ struct hendovita_price on_upper_limit(uint32_t reference);
 struct hendovita_price on_five_percent_lower(uint32_t reference);
 struct hendovita_price on_five_percent_upper(uint32_t reference);
 struct hendovita_answer on_question(const uint8_t *question, size_t len);
+struct hendovita_prepared on_prepare(const uint8_t *question, size_t len);
+struct hendovita_answer on_judge_prepared(uint32_t lowest, uint32_t highest,
+                                          uint32_t nine_fold, uint32_t price);
 struct hendovita_answer on_trade(const uint32_t fields[6]);
 struct hendovita_outcome on_batch(const uint8_t *questions,
                                   size_t questions_len, uint8_t *answers,
                                   size_t answers_len);
+
+/* A question judged in two parts: it is prepared and, where it is not refused,
+ * its order price is judged by what that gave. */
+struct hendovita_answer on_two_parts(const uint8_t question[40]);
 
 #endif

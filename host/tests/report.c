@@ -81,21 +81,26 @@ static void print_answers(struct hendovita_answer found,
     fflush(stdout);
 }
 
-void report_question(const char *how, const uint8_t question[40],
-                     struct hendovita_answer found, struct plain_answer due)
+static void print_question(const char *how, const uint8_t question[40])
 {
     static const char *const names[9] = {
         "price", "current bid", "current ask", "last bid", "last ask",
         "previous close", "day low", "day high", "nominal",
     };
-    if (same(found, due) || !is_printed())
-        return;
     printf("  %s: side %u, order type %u, queue %u, byte 3 %u", how,
            question[0], question[1], question[2], question[3]);
     for (int i = 0; i < 9; i++)
         printf(", %s %" PRIu32, names[i],
                hendovita_get_number(question + 4 + 4 * i));
     printf("\n");
+}
+
+void report_question(const char *how, const uint8_t question[40],
+                     struct hendovita_answer found, struct plain_answer due)
+{
+    if (same(found, due) || !is_printed())
+        return;
+    print_question(how, question);
     print_answers(found, due);
 }
 
@@ -112,6 +117,34 @@ void report_trade(const uint32_t fields[6], struct hendovita_answer found,
     for (int i = 0; i < 6; i++)
         printf(", %s %" PRIu32, names[i], fields[i]);
     printf("\n");
+    print_answers(found, due);
+}
+
+void report_prepared(const char *how, const uint8_t question[40],
+                     struct hendovita_prepared found,
+                     struct plain_prepared due)
+{
+    if (found.number == due.number && found.lowest == due.lowest
+        && found.highest == due.highest && found.nine_fold == due.nine_fold)
+        return;
+    if (!is_printed())
+        return;
+    print_question(how, question);
+    printf("  found %" PRIu32 " %" PRIu32 " %" PRIu32 " %" PRIu32 "\n",
+           found.number, found.lowest, found.highest, found.nine_fold);
+    printf("  due   %" PRIu32 " %" PRIu32 " %" PRIu32 " %" PRIu32 "\n",
+           due.number, due.lowest, due.highest, due.nine_fold);
+    fflush(stdout);
+}
+
+void report_judged(const uint32_t numbers[4], struct hendovita_answer found,
+                   struct plain_answer due)
+{
+    if (same(found, due) || !is_printed())
+        return;
+    printf("  lowest %" PRIu32 ", highest %" PRIu32 ", nine-fold %" PRIu32
+           ", price %" PRIu32 "\n", numbers[0], numbers[1], numbers[2],
+           numbers[3]);
     print_answers(found, due);
 }
 

@@ -28,6 +28,16 @@ void report_question(const char *how, const uint8_t question[40],
 void report_trade(const uint32_t fields[6], struct hendovita_answer found,
                   struct plain_answer due);
 
+/* Faults unless a question is prepared as is due, and unless the order price is
+ * judged as is due, by what was prepared or by any numbers: they print what was
+ * given and both outcomes. The four numbers are lowest, highest, nine-fold
+ * reference and order price. */
+void report_prepared(const char *how, const uint8_t question[40],
+                     struct hendovita_prepared found,
+                     struct plain_prepared due);
+void report_judged(const uint32_t numbers[4], struct hendovita_answer found,
+                   struct plain_answer due);
+
 /* A fault unless number and day are those that are due: it prints the event,
  * how it came, and each number that differs. */
 void report_entered(const char *how, struct plain_event event,

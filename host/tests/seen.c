@@ -1,6 +1,6 @@
 /*
- * Which questions and trades with a reference off the ladder, or at an end of
- * it, were seen.
+ * Which answer numbers were seen, and which questions and trades with a
+ * reference off the ladder, or at an end of it.
  */
 #include "seen.h"
 
@@ -8,6 +8,15 @@
 #include <string.h>
 
 #include "report.h"
+
+void seen_numbers(const uint32_t counts[11], const uint32_t *numbers,
+                  size_t many, uint32_t least)
+{
+    for (size_t i = 0; i < many; i++)
+        if (counts[numbers[i]] < least)
+            report_say("  only %u answered %u", counts[numbers[i]],
+                       numbers[i]);
+}
 
 /* The answer with another price for one reference. */
 typedef struct plain_answer answer_with(const void *asked, uint32_t reference,

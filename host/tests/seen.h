@@ -1,11 +1,18 @@
 /*
- * Which questions and trades with a reference off the ladder, or at an end of
- * it, were seen: so a test can tell what its draw has missed.
+ * Which answer numbers were seen, and which questions and trades with a
+ * reference off the ladder, or at an end of it: so a test can tell what its
+ * draw has missed.
  */
 #ifndef SEEN_H
 #define SEEN_H
 
+#include <stddef.h>
+
 #include "plain.h"
+
+/* Faults unless each of these answer numbers was counted so often. */
+void seen_numbers(const uint32_t counts[11], const uint32_t *numbers,
+                  size_t many, uint32_t least);
 
 /* The references of a question, and of a trade. */
 enum {

@@ -219,6 +219,7 @@ static void test_questions(void)
         uint8_t bytes[40], answer[12];
         hendovita_put_question(bytes, &questions[i].question);
         report_question("alone", bytes, on_question(bytes, 40), due);
+        report_question("in two parts", bytes, on_two_parts(bytes), due);
         report_same("count", on_batch(bytes, 40, answer, 12).count, 1);
         report_question("in a batch", bytes, hendovita_get_answer(answer),
                         due);

@@ -9,6 +9,8 @@ void test_ladder(void);    /* ladder.c: every place, steps by any number */
 void test_prices(void);    /* prices.c: every price, steps and limits */
 void test_bands(void);     /* bands.c: the band of every price */
 void test_judging(void);   /* judging.c: questions and trades */
+void test_prepared(void);  /* prepared.c: questions judged in two parts */
+void test_strangers(void); /* strangers.c: order prices by any numbers */
 void test_closes(void);    /* closes.c: closes and nominals between prices */
 void test_walk(void);      /* walk.c: every price as a reference */
 void test_refusals(void);  /* refusals.c: which references get 3 */

@@ -8,6 +8,7 @@
 #include "draw.h"
 #include "draw_price.h"
 #include "report.h"
+#include "seen.h"
 #include "tests.h"
 
 /* The neighbours of the numbers that do, and numbers of which a part, a byte or
@@ -120,7 +121,7 @@ static void test_band_calls(void)
         no_bands(any_unknown(&draw), draw_price(&draw));
 }
 
-/* ---- questions and trades --------------------------------------------- */
+/* ---- questions -------------------------------------------------------- */
 
 static void refused(const char *what, uint32_t table,
                     struct hendovita_answer found, uint32_t number)
@@ -133,6 +134,7 @@ static void refused(const char *what, uint32_t table,
 /* On a table, the questions would get every number that there is. */
 static void test_questions(void)
 {
+    static const uint32_t numbers[] = {0, 2, 3, 4, 5, 6, 7, 8, 9, 10};
     uint32_t counts[11] = {0};
     uint8_t bytes[40];
     struct draw draw;
@@ -146,9 +148,7 @@ static void test_questions(void)
         refused("question", table,
                 hendovita_judge_question_on(table, bytes, 40), 14);
     }
-    for (uint32_t number = 0; number <= 10; number++)
-        if (number != 1 && counts[number] < 1000)
-            report_say("  only %u that would get %u", counts[number], number);
+    seen_numbers(counts, numbers, sizeof numbers / sizeof *numbers, 1000);
 }
 
 static void test_lengths(void)
@@ -168,6 +168,85 @@ static void test_lengths(void)
         refused("no question", unknown[i],
                 hendovita_judge_question_on(unknown[i], NULL, 0), 1);
 }
+
+/* ---- questions in two parts ------------------------------------------- */
+
+static void not_prepared(const char *what, uint32_t table,
+                         struct hendovita_prepared found, uint32_t number)
+{
+    if (found.number != number || found.lowest != 0 || found.highest != 0
+        || found.nine_fold != 0)
+        report_say("  table %u, %s: found %u %u %u %u, due %u 0 0 0", table,
+                   what, found.number, found.lowest, found.highest,
+                   found.nine_fold, number);
+}
+
+/* On a table, they would be prepared or get 2, 3, 4 or 5. */
+static void test_prepared_questions(void)
+{
+    static const uint32_t numbers[] = {0, 2, 3, 4, 5};
+    uint32_t counts[11] = {0};
+    uint8_t bytes[40];
+    struct draw draw;
+    report_begin("no table: 14 with zeros for a question to be prepared");
+    draw_begin(&draw, 26);
+    for (uint32_t i = 0; i < 300000; i++) {
+        uint32_t table = i % 2 == 0 ? unknown[i / 2 % UNKNOWN]
+                                    : any_unknown(&draw);
+        draw_question(&draw, bytes);
+        counts[plain_prepare(bytes).number]++;
+        not_prepared("question", table,
+                     hendovita_prepare_on(table, bytes, 40), 14);
+    }
+    seen_numbers(counts, numbers, sizeof numbers / sizeof *numbers, 5000);
+}
+
+static void test_prepared_lengths(void)
+{
+    static const uint8_t filling[] = {0, 1, 2, 255};
+    uint8_t bytes[90];
+    report_begin("no table: 1 before it, to be prepared from not 40 bytes");
+    for (size_t f = 0; f < sizeof filling; f++) {
+        memset(bytes, filling[f], sizeof bytes);
+        for (size_t i = 0; i < UNKNOWN; i++)
+            for (size_t len = 0; len <= sizeof bytes; len++)
+                not_prepared("length", unknown[i],
+                             hendovita_prepare_on(unknown[i], bytes, len),
+                             len == 40 ? 14 : 1);
+    }
+    for (size_t i = 0; i < UNKNOWN; i++)
+        not_prepared("no question", unknown[i],
+                     hendovita_prepare_on(unknown[i], NULL, 0), 1);
+}
+
+static uint32_t any_price(struct draw *draw)
+{
+    return draw_one_in(draw, 3) ? draw_odd_price(draw) : draw_price(draw);
+}
+
+/* On a table, they would get every number from 6 to 10, and 0. */
+static void test_prepared_prices(void)
+{
+    static const uint32_t numbers[] = {0, 6, 7, 8, 9, 10};
+    uint32_t counts[11] = {0};
+    struct draw draw;
+    report_begin("no table: 14 with 0 and 0 for an order price, by any range");
+    draw_begin(&draw, 27);
+    for (uint32_t i = 0; i < 300000; i++) {
+        uint32_t table = i % 2 == 0 ? unknown[i / 2 % UNKNOWN]
+                                    : any_unknown(&draw);
+        uint32_t low = any_price(&draw), high = any_price(&draw);
+        uint32_t fold = draw_one_in(&draw, 2) ? 0 : any_price(&draw);
+        uint32_t price = any_price(&draw);
+        counts[plain_judge_prepared(low, high, fold, price).number]++;
+        refused("order price", table,
+                hendovita_judge_prepared_on(table, low, high, fold, price),
+                14);
+    }
+    seen_numbers(counts, numbers, sizeof numbers / sizeof *numbers, 5000);
+}
+
+/* ---- trades ----------------------------------------------------------- */
 
 static void test_trades(void)
 {
@@ -276,6 +355,9 @@ void test_unknown(void)
     test_band_calls();
     test_questions();
     test_lengths();
+    test_prepared_questions();
+    test_prepared_lengths();
+    test_prepared_prices();
     test_trades();
     test_whole_batches();
 }

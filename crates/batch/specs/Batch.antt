@@ -5,7 +5,7 @@ use Rattle.limits.specs.declared.Percentage.{Percentage}
 use Rattle.limits.specs.Terms.{Found, bad_terms_number}
 use Rattle.little_endian.specs.Numbers.{Bytes}
 use Rattle.questions.specs.Record.{question_bytes, count_of, question_at}
-use Rattle.judging.specs.Numbers.{wrong_length}
+use Rattle.preparing.specs.Numbers.{wrong_length}
 use Rattle.judging.specs.Answers.{judged}
 use Rattle.batch.specs.declared.Outcome.{Outcome}
 use Rattle.batch.specs.declared.TurnedAway.{TurnedAway}

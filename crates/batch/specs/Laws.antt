@@ -13,7 +13,8 @@ use Rattle.little_endian.specs.Numbers.{Bytes}
 use Rattle.questions.specs.Record.{question_bytes, price_of, count_of, question_at}
 use Rattle.little_endian.specs.Laws.{number_bound}
 use Rattle.judging.specs.Answers.{judged}
-use Rattle.judging.specs.Laws.{not_refused, SameButPrice, SameRange}
+use Rattle.preparing.specs.Laws.{SameButPrice}
+use Rattle.judging.specs.Laws.{not_refused, SameRange}
 use Rattle.batch.specs.Record.{answer_bytes, encoded, answer_at}
 use Rattle.batch.specs.Batch.{refused, outcome_of, buffer_after, outcome_found, buffer_found}
 

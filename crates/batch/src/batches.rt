@@ -24,7 +24,7 @@ pub(crate) fn count(asked: usize, room: usize) -> Result<usize, TurnedAway>
     Ok(count)
 }
 
-// Judges each question into the buffer of its answers.
+// Judges each question, by its first and its second part, into the buffer of its answers.
 pub(crate) fn answer_each(terms: &Terms, questions: &[u8], answers: &mut [u8])
     requires room { count_of (length questions.now) * answer_bytes ≤ length answers.old }
     ensures { answers.new ≡ answered (prices_of terms.now.table) terms.now.percentage (count_of (length questions.now)) questions.now answers.old }

@@ -14,8 +14,8 @@ ghost use Rattle.limits.specs.Terms.{terms_on};
 ghost use Rattle.batch.specs.declared.TurnedAway.TheVariants.{WithBadTerms};
 ghost use Rattle.batch.specs.Batch.{counted, turned_away_number, outcome_by, buffer_after, counted_by, buffer_found};
 
-use judging::answers::WRONG_LENGTH;
 use limits::terms::{BadTerms, terms_on};
+use preparing::reasons::WRONG_LENGTH;
 use tables::USUAL_TABLE;
 
 // How many bytes an answer has.

@@ -4,7 +4,8 @@ use Rattle.std.specs.Prelude.{Option, Some, None, Ok, Err}
 use mathlib.Core.Path.{◌≡◌, refl, ap}
 use Prim.Native.Nat.{ℕ, zero, suc, ◌-◌}
 use mathlib.Core.Bool.{cond}
-use lib.Dec.{T}
+use lib.Dec.{T, eqb}
+use lib.ListN.{length}
 use Rattle.tables.specs.Bands.{Table, well_formed}
 use Rattle.ladder.specs.Ladder.{Prices, ladder}
 use Rattle.limits.specs.declared.Percentage.{Percentage}
@@ -19,7 +20,7 @@ use Rattle.rules.specs.declared.Rule.{Rule}
 use Rattle.rules.specs.declared.Rule.TheVariants.{BuyLimit, BuyEnhanced, BuySpecial, SellLimit, SellEnhanced, SellSpecial}
 use Rattle.questions.specs.Missing.{as_reference, least, greatest, price_or}
 use Rattle.little_endian.specs.Numbers.{Bytes}
-use Rattle.questions.specs.Record.{decoded}
+use Rattle.questions.specs.Record.{question_bytes, codes_of, references_of, decoded}
 use Rattle.questions.specs.Checks.{any_off}
 use Rattle.rules.specs.Checks.{disagree, unopposed}
 use Rattle.rules.specs.Rules.{chosen, ask_of, bid_of}
@@ -32,7 +33,10 @@ use Rattle.judging.specs.declared.Answer.{Answer}
 use Rattle.judging.specs.declared.Shown.{Shown}
 use Rattle.judging.specs.Shown.{shown_of}
 use Rattle.judging.specs.Verdicts.{verdict_of}
-use Rattle.judging.specs.Numbers.{wrong_length, verdict_number}
+use Rattle.preparing.specs.declared.Unprepared.TheVariants.{WrongLength}
+use Rattle.preparing.specs.Prepared.{Prepared, prepared_reading, prepared}
+use Rattle.preparing.specs.Numbers.{wrong_length}
+use Rattle.judging.specs.Numbers.{verdict_number}
 use Rattle.judging.specs.Answers.{none_shown, refused_answer, answer_with, answer_by, answer_decoded, judged}
 use Rattle.trades.specs.declared.TradeReferences.{TradeReferences}
 use Rattle.trades.specs.Trades.{any_trade_off, trade_disagrees, trade_reading, trade_by, trade_judged}
@@ -114,6 +118,11 @@ answer_for l (Ok x) p =
     settled x.lowest (λ a. settled x.highest (λ b. settled_reference x.nine_fold (λ nine. answer_at l p a b nine)))
 answer_for l (Err refusal) p = refused_answer refusal
 
+-- what the first part gives of a question
+unfoldable pub prepared_by : Prices → Percentage → Bytes → Prepared
+prepared_by l percent s =
+    cond (eqb (length s) question_bytes) (prepared_reading (reading l percent (chosen (codes_of s) (references_of s)) (references_of s))) (Err WrongLength)
+
 -- the answers to a question and to a trade
 abbrev answer : Prices → Percentage → Option Question → Answer
 answer l percent (Some q) = answer_for l (reading l percent (chosen q.codes q.references) q.references) q.price
@@ -188,6 +197,10 @@ module _ (t : Table) (formed : T (well_formed t)) (percent : Percentage) where
       let choice = chosen q.codes q.references in
       rw (same_reading choice q.references) (same_for (ladder t) (reading (ladder t) percent choice q.references) q.price)
   same_answer None = refl
+
+  pub same_prepared : (s : Bytes) → prepared (ladder t) percent s ≡ prepared_by (ladder t) percent s
+  unfolding prepared prepared_by reading_of
+  same_prepared s = rw (same_reading (chosen (codes_of s) (references_of s)) (references_of s)) refl
 
   pub same_judged : (s : Bytes) → judged (ladder t) percent s ≡ judged_by (ladder t) percent s
   unfolding judged judged_by

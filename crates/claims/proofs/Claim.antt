@@ -1,6 +1,6 @@
 -- The claims about lines. A line is right by the definitions exactly where it is right by places, whatever line it is; by places the lines are
 -- computed.
-use mathlib.Core.Path.{◌≡◌, refl, ◌∙◌}
+use mathlib.Core.Path.{◌≡◌, refl, ap, ◌∙◌}
 use Prim.Native.Nat.{ℕ, zero, suc}
 use mathlib.Core.Bool.{Bool, true, false, not, ◌&&◌}
 use mathlib.Core.List.{List, [], ◌∷◌}
@@ -19,14 +19,17 @@ use Rattle.questions.specs.Record.{codes_of, references_of}
 use Rattle.questions.specs.Checks.{any_off}
 use Rattle.rules.specs.Checks.{disagree}
 use Rattle.rules.specs.Rules.{chosen}
+use Rattle.preparing.specs.Numbers.{prepared_numbers, range_from}
+use Rattle.judging.specs.Answers.{answer_on}
 use Rattle.judging.specs.Shown.{shown_of}
 use Rattle.judging.specs.Verdicts.{verdict_of}
 use Rattle.trades.specs.Trades.{trade_references_of, any_trade_off, trade_verdict}
-use Rattle.claims.specs.Worked.{prices, little_endian, mils, Line, order, bytes, low, high, trade, up, down, is, finds, every, right_on, right, lines, Worked}
+use Rattle.claims.specs.Worked.{prices, missing, little_endian, mils, Line, order, bytes, low, high, trade, up, down, is, finds, every, right_on, right, lines, Worked}
 use Rattle.claims.specs.OldCloses.{old_lines, OldCloses}
+use Rattle.claims.specs.Slider.{Slide, first_part, second_part, gives, right_slide, slides, Sliders}
 use Rattle.claims.specs.TableLines.{OnTable, table_lines, right_named, TableLines}
 use Rattle.claims.proofs.Limits.{up_after, down_after, low_by, high_by, up_by, down_by, low_by_lem, high_by_lem}
-use Rattle.claims.proofs.Answers.{shown_by, lowest_by, highest_by, judged_by, trade_judged_by, same_judged, same_trade}
+use Rattle.claims.proofs.Answers.{shown_by, lowest_by, highest_by, prepared_by, judged_by, trade_judged_by, same_prepared, same_judged, same_trade}
 
 -- a line is right by places, on the ladder l
 unfoldable right_by : Prices → Line → Bool
@@ -58,9 +61,12 @@ same_right t wf (up p (suc n) q) = rw (up_by t wf p n)
 same_right t wf (down p zero q) = refl
 same_right t wf (down p (suc n) q) = rw (down_by t wf p n)
 
-on_phase1 : (line : Line) → right line ≡ right_by prices line
+phase1_formed : T (well_formed phase1)
 unfolding table_named
-on_phase1 = same_right phase1 ((table_laws.named_tables 2).well_formed_lem refl)
+phase1_formed = (table_laws.named_tables 2).well_formed_lem refl
+
+on_phase1 : (line : Line) → right line ≡ right_by prices line
+on_phase1 = same_right phase1 phase1_formed
 
 -- the lines by places, computed
 by_places : every (right_by prices) lines ≡ true
@@ -107,3 +113,26 @@ table_lines_by_places = refl
 
 pub table_lines_right : TableLines
 table_lines_right = same_every right_named named_by same_named table_lines ∙ table_lines_by_places
+
+-- ---- questions that are prepared once
+
+slide_by : Slide → Bool
+slide_by (first_part ask n) = gives (prepared_numbers (prepared_by prices five_percent (ask missing))) n
+slide_by (second_part n lowest highest tried) =
+    every (λ a. is (answer_on prices (range_from n.lowest n.highest n.nine_fold) a.price) a.number lowest highest) tried
+
+same_slide : (slide : Slide) → right_slide slide ≡ slide_by slide
+unfolding right_slide slide_by
+same_slide (first_part ask n) =
+    ap (λ p. gives (prepared_numbers p) n) (same_prepared phase1 phase1_formed five_percent (ask missing))
+same_slide (second_part n lowest highest tried) = refl
+
+slides_by_places : every slide_by slides ≡ true
+unfolding
+    every slides slide_by prepared_by lowest_by highest_by little_endian mils codes_of references_of chosen any_off disagree
+    shown_of verdict_of phase1 ladder band_prices rungs holds first latest_after spread_up spread_down
+    price_at place_from last_after is_outside
+slides_by_places = refl
+
+pub sliders : Sliders
+sliders = same_every right_slide slide_by same_slide slides ∙ slides_by_places

@@ -1,3 +1,3 @@
 #![tactic(auto)]
 
-// Lines A to M of document 01's "Prices worked out", as one proved claim. There is no code here: see specs/Worked.antt.
+// Worked lines of document 01, and others by hand, as proved claims. There is no code here: see specs/Lib.antt.

@@ -5,7 +5,7 @@ use Rattle.questions.specs.declared.References.{References}
 use Rattle.questions.specs.declared.Question.{Question}
 use Rattle.questions.specs.Missing.{reference_of, present}
 use Rattle.questions.specs.Record.{question_bytes, bytes_of}
-use Rattle.judging.specs.Numbers.{wrong_length}
+use Rattle.preparing.specs.Numbers.{wrong_length}
 use Rattle.daybook.specs.declared.Day.{Day}
 use Rattle.dayquestion.specs.declared.Order.{Order}
 use Rattle.dayquestion.specs.declared.WrongLength.{WrongLength}

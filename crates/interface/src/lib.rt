@@ -14,7 +14,9 @@ ghost use Rattle.ladder.specs.Spreads.{spreads_up, spreads_down};
 ghost use Rattle.limits.specs.Limits.{five_percent, percent_lower_found, percent_upper_found, lower_limit_found, upper_limit_found};
 ghost use Rattle.questions.specs.Missing.{reference_of};
 ghost use Rattle.limits.specs.Terms.{terms_on};
-ghost use Rattle.judging.specs.Answers.{judged, judged_by};
+ghost use Rattle.preparing.specs.Prepared.{prepared, prepared_by};
+ghost use Rattle.preparing.specs.Numbers.{prepared_numbers, range_from};
+ghost use Rattle.judging.specs.Answers.{judged, judged_by, answer_on, prepared_judged_by};
 ghost use Rattle.trades.specs.Trades.{trade_references_of, trade_judged, trade_judged_by};
 ghost use Rattle.daybook.specs.Events.{event};
 ghost use Rattle.daybook.specs.Days.{opened, entered};
@@ -26,7 +28,9 @@ use daybook::Day;
 use daynumbers::{DayNumbers, EnteredNumbers};
 use dayquestion::{Order, WrongLength};
 use judging::Answer;
-use judging::answers::WRONG_LENGTH;
+use preparing::PreparedNumbers;
+use preparing::numbers::range_from;
+use preparing::reasons::WRONG_LENGTH;
 use questions::Reference;
 
 // A price: `found` is 1, or 0 where there is none, and the price is then 0.
@@ -67,6 +71,50 @@ pub extern "C" fn hendovita_judge_question_on(table: u32, question: &[u8]) -> An
     ensures { result ≡ judged_by (terms_on table) question.now }
 {
     judging::judge_on(table, question)
+}
+
+// The first part of a question of 40 bytes, which does not look at its order price: 0 with the permitted range and the nine-fold reference, or 2
+// to 5 with zeros; to any other number of bytes 1 with zeros.
+#[unsafe(no_mangle)]
+pub extern "C" fn hendovita_prepare(question: &[u8]) -> PreparedNumbers
+    ensures { result ≡ prepared_numbers (prepared usual_ladder five_percent question.now) }
+{
+    PreparedNumbers::from(preparing::prepare(question))
+}
+
+// The same on the table that a number names; where it names none, after 1, 14 with zeros.
+#[unsafe(no_mangle)]
+pub extern "C" fn hendovita_prepare_on(table: u32, question: &[u8]) -> PreparedNumbers
+    ensures { result ≡ prepared_numbers (prepared_by (terms_on table) question.now) }
+{
+    PreparedNumbers::from(preparing::prepare_on(table, question))
+}
+
+// The second part: the answer to a price against a range, by any three numbers; 0 is a missing nine-fold reference.
+#[unsafe(no_mangle)]
+pub extern "C" fn hendovita_judge_prepared(
+    lowest: u32,
+    highest: u32,
+    nine_fold: u32,
+    price: u32,
+) -> Answer
+    ensures { result ≡ answer_on usual_ladder (range_from lowest highest nine_fold) price }
+{
+    judging::judge_prepared(range_from(lowest, highest, nine_fold), price)
+}
+
+// The same on the table that a number names; where it names none, 14 with 0 and 0.
+#[unsafe(no_mangle)]
+pub extern "C" fn hendovita_judge_prepared_on(
+    table: u32,
+    lowest: u32,
+    highest: u32,
+    nine_fold: u32,
+    price: u32,
+) -> Answer
+    ensures { result ≡ prepared_judged_by (terms_on table) (range_from lowest highest nine_fold) price }
+{
+    judging::judge_prepared_on(table, range_from(lowest, highest, nine_fold), price)
 }
 
 // The answer to an off-System trade. After the trade price, 0 means missing.

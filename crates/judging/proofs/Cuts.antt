@@ -1,6 +1,6 @@
 -- Bounds cut by the nine-fold rule: a ladder price lies within them exactly where it is shown; and the range between them.
 use Rattle.std.specs.Prelude.{Option, Some, None}
-use mathlib.Core.Path.{◌≡◌, refl}
+use mathlib.Core.Path.{◌≡◌, refl, sym}
 use Prim.Native.Nat.{ℕ, ◌*◌, ◌≤◌, ◌<◌}
 use native.Mathlib.Omega.{arith}
 use mathlib.Core.Bool.{Bool, true, false, cond, ◌&&◌}
@@ -11,7 +11,8 @@ use Rattle.ladder.specs.Ladder.{ladder, is_ladder_price}
 use Rattle.ladder.specs.Search.{first, latest, at_least, at_most}
 use Rattle.ladder.specs.Laws.{NonePasses}
 use Rattle.ladder.proofs.Laws.{ladder_laws}
-use Rattle.facts.proofs.Tests.{and_left, and_right, and_both}
+use Rattle.facts.specs.Lists.{holds}
+use Rattle.facts.proofs.Tests.{and_left, and_right, and_both, true_of}
 use Rattle.questions.specs.declared.Reference.{Reference}
 use Rattle.questions.specs.declared.Reference.TheVariants.{Missing, Price}
 use Rattle.ranges.specs.declared.Range.{Range}
@@ -19,7 +20,7 @@ use Rattle.judging.specs.Shown.{fold, passes, is_shown, shown_of}
 use Rattle.judging.specs.Cutting.{cut_lowest, cut_highest, none_between, shown_between}
 use Rattle.judging.proofs.Windows.{Window, over_zero, none_from, none_to, none_between_lem, first_found, latest_found}
 
-pub within : (lowest highest : ℕ) (nine : Reference) (p : ℕ) → T (leb lowest p && leb p highest && passes nine p) →
+within : (lowest highest : ℕ) (nine : Reference) (p : ℕ) → T (leb lowest p && leb p highest && passes nine p) →
     (cut_lowest lowest nine ≤ p) × (p ≤ cut_highest highest nine)
 within lowest highest Missing p h = go (and_left (leb lowest p && leb p highest) _ h)
   where
@@ -36,7 +37,7 @@ within lowest highest (Price n) p h = go (and_left (leb lowest p && leb p highes
         let d : n < fold * p = ltb→lt n (fold * p) (and_right (ltb p (fold * n)) _ j) in
         (omega arith, omega arith)
 
-pub without : (lowest highest : ℕ) (nine : Reference) (p : ℕ) → 0 < p → cut_lowest lowest nine ≤ p → p ≤ cut_highest highest nine →
+without : (lowest highest : ℕ) (nine : Reference) (p : ℕ) → 0 < p → cut_lowest lowest nine ≤ p → p ≤ cut_highest highest nine →
     T (leb lowest p && leb p highest && passes nine p)
 without lowest highest Missing p pos a b =
     and_both (leb lowest p && leb p highest) _ (and_both (leb lowest p) _ (le→leb lowest p a) (le→leb p highest b)) tt
@@ -67,14 +68,26 @@ shown_some : (t : Table) (range : Range) (a b : ℕ) → first (is_shown range) 
 unfolding shown_of
 shown_some t range a b e f = rw (e, f)
 
--- both cut bounds rounded to the ladder are the first and the last price of the window, or there is none
-pub shown_cut : (t : Table) → T (well_formed t) → (range : Range) (from to : ℕ) → from ≡ cut_lowest range.lowest range.nine_fold →
-    to ≡ cut_highest range.highest range.nine_fold → (f g : Option ℕ) → f ≡ first (at_least 1 from) (ladder t) →
-    g ≡ latest (at_most 1 to) (ladder t) → shown_between f g ≡ shown_of (ladder t) range
-shown_cut t wf range from to a b = go
+-- the bounds of a range, as they are cut
+abbrev pub cut_from : Range → ℕ
+cut_from range = cut_lowest range.lowest range.nine_fold
+
+abbrev pub cut_to : Range → ℕ
+cut_to range = cut_highest range.highest range.nine_fold
+
+-- both rounded to the ladder are the first and the last price of the window, or there is none
+shown_cut : (t : Table) → T (well_formed t) → (range : Range) (f g : Option ℕ) → f ≡ first (at_least 1 (cut_from range)) (ladder t) →
+    g ≡ latest (at_most 1 (cut_to range)) (ladder t) → shown_between f g ≡ shown_of (ladder t) range
+shown_cut t wf range = go
   where
+    from : ℕ
+    from = cut_from range
+
+    to : ℕ
+    to = cut_to range
+
     shown : Window t (is_shown range) from to
-    shown = window t wf range from to a b
+    shown = window t wf range from to refl refl
 
     both : (x y : ℕ) → Some x ≡ first (at_least 1 from) (ladder t) → Some y ≡ latest (at_most 1 to) (ladder t) → (v : Bool) → ltb y x ≡ v →
         cond v none_between (record { lowest = x; highest = y }) ≡ shown_of (ladder t) range
@@ -89,13 +102,33 @@ shown_cut t wf range from to a b = go
     go (Some x) (Some y) e f = both x y e f (ltb y x) refl
 
 -- a price of the ladder is the first from itself on, and the last up to itself
-module _ (t : Table) (wf : T (well_formed t)) (p : ℕ) (h : T (is_ladder_price p t)) where
-  pub first_from_itself : first (at_least 1 p) (ladder t) ≡ Some p
-  first_from_itself =
-      (ladder_laws.first_is_smallest t wf (at_least 1 p)).finds p
-      (record { on = h; passes = le→leb p (1 * p) (omega arith); extreme = λ x k m. let n : p ≤ 1 * x = leb→le p (1 * x) m in omega arith })
+module _ (t : Table) (wf : T (well_formed t)) (p : ℕ) (held : holds p (ladder t) ≡ true) where
+  on : T (is_ladder_price p t)
+  on = rw (← (ladder_laws.the_ladder t wf p)) (true_of (holds p (ladder t)) held)
 
-  pub last_up_to_itself : latest (at_most 1 p) (ladder t) ≡ Some p
+  first_from_itself : Some p ≡ first (at_least 1 p) (ladder t)
+  first_from_itself =
+      sym ((ladder_laws.first_is_smallest t wf (at_least 1 p)).finds p
+      (record { on = on; passes = le→leb p (1 * p) (omega arith); extreme = λ x k m. let n : p ≤ 1 * x = leb→le p (1 * x) m in omega arith }))
+
+  last_up_to_itself : Some p ≡ latest (at_most 1 p) (ladder t)
   last_up_to_itself =
-      (ladder_laws.latest_is_largest t wf (at_most 1 p)).finds p
-      (record { on = h; passes = le→leb (1 * p) p (omega arith); extreme = λ x k m. let n : 1 * x ≤ p = leb→le (1 * x) p m in omega arith })
+      sym ((ladder_laws.latest_is_largest t wf (at_most 1 p)).finds p
+      (record { on = on; passes = le→leb (1 * p) p (omega arith); extreme = λ x k m. let n : 1 * x ≤ p = leb→le (1 * x) p m in omega arith }))
+
+-- cut bounds, which are ladder prices, or are rounded to the ladder, or fall and show nothing
+module _ (t : Table) (wf : T (well_formed t)) (range : Range) where
+  pub shown_held : holds (cut_from range) (ladder t) ≡ true → holds (cut_to range) (ladder t) ≡ true →
+      shown_between (Some (cut_from range)) (Some (cut_to range)) ≡ shown_of (ladder t) range
+  shown_held e f = shown_cut t wf range _ _ (first_from_itself t wf (cut_from range) e) (last_up_to_itself t wf (cut_to range) f)
+
+  pub shown_rounded :
+      shown_between (first (at_least 1 (cut_from range)) (ladder t)) (latest (at_most 1 (cut_to range)) (ladder t)) ≡ shown_of (ladder t) range
+  shown_rounded = shown_cut t wf range _ _ refl refl
+
+  pub shown_falling : cut_to range < cut_from range → none_between ≡ shown_of (ladder t) range
+  shown_falling falls =
+      shown_none t wf range
+      (λ x on shown.
+      let w = (window t wf range _ _ refl refl).within x on shown in
+      absurd (omega (arith, w.0, w.1, falls)))

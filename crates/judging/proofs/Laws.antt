@@ -1,7 +1,7 @@
 -- The laws of specs/Laws.antt, proved. Other crates see them as fields of judging_laws.
 use Rattle.std.specs.Prelude.{Option, Some, None, Ok, Err}
 use mathlib.Core.Logic.{◌⊎◌, inl, inr}
-use mathlib.Core.Path.{◌≡◌, refl, ◌∙◌}
+use mathlib.Core.Path.{◌≡◌, refl, sym, ◌∙◌}
 use Prim.Native.Nat.{ℕ, ◌≤◌, ◌<◌}
 use native.Mathlib.Omega.{arith}
 use mathlib.Core.Bool.{Bool, true, false, ◌&&◌}
@@ -23,28 +23,22 @@ use Rattle.limits.specs.Limits.{five_percent}
 use Rattle.limits.specs.Terms.{terms_on}
 use Rattle.questions.specs.Record.{question_bytes, codes_of, price_of, references_of, decoded}
 use Rattle.ranges.specs.declared.Range.{Range}
-use Rattle.ranges.specs.declared.Refusal.{Refusal}
 use Rattle.ranges.specs.declared.Refusal.TheVariants.{UnknownCode, OffLadder, Disagreement, NoOpposite}
 use Rattle.questions.specs.declared.Question.{Question}
 use Rattle.ranges.specs.Readings.{Reading, reading_of}
+use Rattle.preparing.specs.Prepared.{Prepared, prepared}
+use Rattle.preparing.specs.Numbers.{wrong_length}
+use Rattle.preparing.proofs.Laws.{preparing_laws}
 use Rattle.judging.specs.declared.Verdict.{Verdict}
 use Rattle.judging.specs.declared.Verdict.TheVariants.{Accepted, OutsideLadder, BetweenPrices, BelowLowest, AboveHighest, NineFold}
 use Rattle.judging.specs.Shown.{is_shown, shown_of}
-use Rattle.judging.specs.Cutting.{cut_lowest, cut_highest}
 use Rattle.judging.specs.Verdicts.{verdict_of}
-use Rattle.judging.specs.Numbers.{wrong_length, refusal_number, verdict_number}
-use Rattle.judging.specs.Answers.{none_shown, answer_on, answer_by, answer_decoded, judged, judged_by}
-use Rattle.judging.specs.Laws.{ShownIsExactly, LadderRange, RangeOrNone, not_refused, SameRange, AnyOrderPrice, JudgedOnTable, AnyOrderPriceOn, is_question_number, is_refusal, QuestionNumbers, JudgingLaws}
-use Rattle.judging.proofs.Cuts.{window}
-use Rattle.judging.proofs.Windows.{over_zero, exactly}
-use Rattle.judging.proofs.Acceptance.{accepts, judged_number}
-use Rattle.judging.proofs.Fields.{same_codes, same_references}
-
-shown_is_exactly : ShownIsExactly
-unfolding shown_of
-shown_is_exactly t wf range p on =
-    exactly t wf (is_shown range) (cut_lowest range.lowest range.nine_fold) (cut_highest range.highest range.nine_fold)
-    (window t wf range _ _ refl refl) p on
+use Rattle.judging.specs.Numbers.{verdict_number}
+use Rattle.judging.specs.Answers.{none_shown, answer_on, answer_by, answer_decoded, prepared_judged_by, then_judged, judged, judged_by}
+use Rattle.judging.specs.Laws.{LadderRange, RangeOrNone, SameRange, AnyOrderPrice, AnyRange, JudgedOnTable, AnyRangeOnTable, AnyOrderPriceOn, is_question_number, is_refusal, QuestionNumbers, JudgingLaws}
+use Rattle.judging.proofs.Windows.{over_zero}
+use Rattle.judging.proofs.Parts.{both_parts, not_judged}
+use Rattle.judging.proofs.Acceptance.{shown_is_exactly, from_lowest_to_highest, accepts, judged_number}
 
 -- ---- a range, or none
 
@@ -87,19 +81,18 @@ range_or_none t wf percent s = go (decoded s)
     go (Some q) = by_reading (reading_of (ladder t) percent q.codes q.references) q.price
     go None = inr (refl, refl)
 
--- ---- any order price
+-- ---- by two parts
 
--- on the ladder and shown, or on the ladder from the lowest shown to the highest shown
-from_lowest_to_highest : (t : Table) → T (well_formed t) → (range : Range) (p : ℕ) →
-    (is_ladder_price p t && is_shown range p) ≡
-    (is_ladder_price p t && leb (shown_of (ladder t) range).lowest p && leb p (shown_of (ladder t) range).highest)
-from_lowest_to_highest t wf range p = go (is_ladder_price p t) (shown_is_exactly t wf range p)
-  where
-    go : (on : Bool) →
-        (T on → is_shown range p ≡ (leb (shown_of (ladder t) range).lowest p && leb p (shown_of (ladder t) range).highest)) →
-        (on && is_shown range p) ≡ (on && leb (shown_of (ladder t) range).lowest p && leb p (shown_of (ladder t) range).highest)
-    go true e = e tt
-    go false e = refl
+any_range : AnyRange
+any_range t wf range p =
+    record {
+      number = judged_number (verdict_of (ladder t) range p);
+      ends = range_shown t wf range p;
+      shown = shown_is_exactly t wf range;
+      accepted = accepts t wf range p;
+    }
+
+-- ---- any order price
 
 -- a question of 40 bytes is answered by its reading
 by_reading : (l : List ℕ) (percent : Percentage) (s : List ℕ) → length s ≡ question_bytes →
@@ -110,13 +103,6 @@ by_reading l percent s n = rw (eq-eqb (length s) question_bytes n)
 other_bytes : (l : List ℕ) (percent : Percentage) (s : List ℕ) → (length s ≡ question_bytes → ⊥) → judged l percent s ≡ none_shown wrong_length
 unfolding judged
 other_bytes l percent s n = rw (ne_eqb (length s) question_bytes n)
-
--- a refusal is not judged
-not_judged : (x : Refusal) → T (not_refused (refusal_number x)) → ⊥
-not_judged UnknownCode h = h
-not_judged OffLadder h = h
-not_judged Disagreement h = h
-not_judged NoOpposite h = h
 
 -- nothing is accepted up to 0
 none_up_to_zero : (t : Table) → T (well_formed t) → (n p lowest highest : ℕ) → eqb n 0 ≡ (is_ladder_price p t && leb lowest p && leb p highest) →
@@ -130,16 +116,18 @@ none_up_to_zero t wf n p lowest highest e high accepted =
 
 any_order_price : AnyOrderPrice
 any_order_price t wf percent s u ns nu same h =
-    go (reading_of (ladder t) percent (codes_of s) (references_of s)) (by_reading (ladder t) percent s ns)
-    (by_reading (ladder t) percent u nu ∙ rw (same_codes s u same, same_references s u same))
+    go (prepared (ladder t) percent s) (both_parts.judged_lem (ladder t) percent s) (rw same_first (both_parts.judged_lem (ladder t) percent u))
   where
     p : ℕ
     p = price_of u
 
-    go : (reading : Reading) → judged (ladder t) percent s ≡ answer_by (ladder t) reading (price_of s) →
-        judged (ladder t) percent u ≡ answer_by (ladder t) reading p →
+    same_first : prepared (ladder t) percent s ≡ prepared (ladder t) percent u
+    same_first = preparing_laws.price_not_looked_at (Ok (record { prices = ladder t; percentage = percent })) s u (ns ∙ sym nu) same
+
+    go : (first : Prepared) → judged (ladder t) percent s ≡ then_judged (ladder t) first (price_of s) →
+        judged (ladder t) percent u ≡ then_judged (ladder t) first p →
         SameRange t (judged (ladder t) percent s) (judged (ladder t) percent u) p
-    go (Err x) a b = absurd (not_judged x (rw a at h))
+    go (Err why) a b = absurd (not_judged why (rw a at h))
     go (Ok range) a b =
         record {
           not_refused_lem = rw b (judged_number (verdict_of (ladder t) range p));
@@ -167,6 +155,12 @@ judged_on_table n s =
     of_other_bytes : (length s ≡ question_bytes → ⊥) → (v : Bool) → unknown_table n ≡ v → judged_by (terms_on n) s ≡ none_shown wrong_length
     of_other_bytes other true e = rw (e, ne_eqb (length s) question_bytes other) refl
     of_other_bytes other false e = rw e (other_bytes (ladder_named n) five_percent s other)
+
+any_range_on_table : AnyRangeOnTable
+any_range_on_table n range p = record { unknown = λ e. rw e refl; named = λ e. rw e refl }
+
+pub usual_prepared : (range : Range) (p : ℕ) → prepared_judged_by (terms_on usual_table) range p ≡ answer_on usual_ladder range p
+usual_prepared range p = (any_range_on_table usual_table range p).named table_laws.usual_is_named
 
 pub usual : (s : List ℕ) → judged_by (terms_on usual_table) s ≡ judged usual_ladder five_percent s
 usual s = (judged_on_table usual_table s).named table_laws.usual_is_named
@@ -236,8 +230,11 @@ judging_laws =
     record {
       shown_is_exactly = shown_is_exactly;
       range_or_none = range_or_none;
+      both_parts = both_parts;
+      any_range = any_range;
       any_order_price = any_order_price;
       judged_on_table = judged_on_table;
+      any_range_on_table = any_range_on_table;
       any_order_price_on = any_order_price_on;
       question_numbers = question_numbers;
     }

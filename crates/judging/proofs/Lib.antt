@@ -1,7 +1,7 @@
 -- Laws: what other crates see. Cuts and Windows: how cut bounds give the shown range. Acceptance: what the verdict accepts.
--- Fields: questions that agree but for the order price.
+-- Parts: a question by the first part and the second.
 pub mod Laws
 mod Cuts
 mod Windows
 mod Acceptance
-mod Fields
+mod Parts

@@ -1,20 +1,22 @@
 -- The laws of judging. Each is a field of the record JudgingLaws at the end, which proofs/Laws.antt proves as judging_laws: AnyOrderPrice is
 -- the field any_order_price.
-use Rattle.std.specs.Prelude.{◌⊎◌, ◌≡◌, ℕ, ◌+◌, ◌≤◌, ◌<◌, Bool, true, false, ◌&&◌, ◌||◌, T, eqb, leb, length, get_or}
+use Rattle.std.specs.Prelude.{◌⊎◌, ◌≡◌, ℕ, ◌≤◌, Bool, true, false, ◌&&◌, ◌||◌, T, eqb, leb, length}
 use Rattle.tables.specs.Bands.{Table, well_formed}
 use Rattle.tables.specs.Named.{table_named, unknown_table}
 use Rattle.ladder.specs.Ladder.{Prices, ladder, is_ladder_price}
 use Rattle.ladder.specs.Named.{ladder_named}
 use Rattle.limits.specs.declared.Percentage.{Percentage}
 use Rattle.limits.specs.Limits.{five_percent}
-use Rattle.limits.specs.Terms.{terms_on}
+use Rattle.limits.specs.Terms.{Found, terms_on}
 use Rattle.little_endian.specs.Numbers.{Bytes}
-use Rattle.questions.specs.Record.{question_bytes, price_byte, price_of}
+use Rattle.questions.specs.Record.{question_bytes, price_of}
 use Rattle.ranges.specs.declared.Range.{Range}
+use Rattle.preparing.specs.Prepared.{prepared, prepared_by}
+use Rattle.preparing.specs.Numbers.{wrong_length, prepared_numbers}
+use Rattle.preparing.specs.Laws.{SameButPrice}
 use Rattle.judging.specs.declared.Answer.{Answer}
 use Rattle.judging.specs.Shown.{is_shown, shown_of}
-use Rattle.judging.specs.Numbers.{wrong_length}
-use Rattle.judging.specs.Answers.{none_shown, judged, judged_by}
+use Rattle.judging.specs.Answers.{none_shown, answer_on, prepared_judged_by, then_judged, numbers_judged, judged, judged_by}
 
 -- The shown range is exactly the ladder prices that are in the permitted range and pass the nine-fold rule: a ladder price is one of
 -- these where it lies from the lowest shown to the highest shown, and only there. Where 0 and 0 are shown there is none.
@@ -40,11 +42,6 @@ RangeOrNone =
 abbrev pub not_refused : ℕ → Bool
 not_refused n = eqb n 0 || leb 6 n && leb n 10
 
--- two questions that agree in all bytes but the four of the order price
-pub record SameButPrice (s u : Bytes) : Type 0 where
-  pub before : (i : ℕ) → i < price_byte → get_or s i 0 ≡ get_or u i 0
-  pub after : (i : ℕ) → price_byte + 4 ≤ i → i < question_bytes → get_or s i 0 ≡ get_or u i 0
-
 -- what holds of an answer b to the price p, where a is the answer to the same question with another order price: it is not refused either,
 -- shows the same range, and is accepted exactly where p is a ladder price from the lowest shown to the highest shown, and never where 0 and
 -- 0 are shown
@@ -63,6 +60,29 @@ AnyOrderPrice =
     SameButPrice s u → T (not_refused (judged (ladder t) percent s).number) →
     SameRange t (judged (ladder t) percent s) (judged (ladder t) percent u) (price_of u)
 
+-- ---- by two parts
+
+-- The first part and then the second give what judging gave: over any ladder and at any percentage; and by plain numbers, for whatever a call
+-- names, a bad table too.
+pub record BothParts : Type 0 where
+  pub judged_lem : (l : Prices) (percent : Percentage) (s : Bytes) → judged l percent s ≡ then_judged l (prepared l percent s) (price_of s)
+  pub by_numbers : (found : Found) (s : Bytes) → judged_by found s ≡ numbers_judged found (prepared_numbers (prepared_by found s)) (price_of s)
+
+-- What the second part answers to any three numbers as a range, also where they come from a stranger: 0 or 6 to 10; the range that it shows goes
+-- from a ladder price to one that is not lower, or is 0 and 0; a ladder price x lies in it exactly where x is in the range given and passes the
+-- nine-fold rule; and p is accepted exactly where it is such a ladder price.
+pub record ByItsNumbers (t : Table) (range : Range) (p : ℕ) : Type 0 where
+  pub number : T (not_refused (answer_on (ladder t) range p).number)
+  pub ends :
+      LadderRange t (answer_on (ladder t) range p) ⊎ (((answer_on (ladder t) range p).lowest ≡ 0) × ((answer_on (ladder t) range p).highest ≡ 0))
+  pub shown :
+      (x : ℕ) → T (is_ladder_price x t) →
+      is_shown range x ≡ (leb (answer_on (ladder t) range p).lowest x && leb x (answer_on (ladder t) range p).highest)
+  pub accepted : eqb (answer_on (ladder t) range p).number 0 ≡ (is_ladder_price p t && is_shown range p)
+
+abbrev pub AnyRange : Type 0
+AnyRange = (t : Table) → T (well_formed t) → (range : Range) (p : ℕ) → ByItsNumbers t range p
+
 -- ---- on a table by its number
 
 -- A question to a call that names a table: 1 comes first, then 14 with 0 and 0 by a number that names none; else it is judged over that table,
@@ -74,6 +94,15 @@ pub record OnTable (n : ℕ) (s : Bytes) : Type 0 where
 
 abbrev pub JudgedOnTable : Type 0
 JudgedOnTable = (n : ℕ) (s : Bytes) → OnTable n s
+
+-- An order price against a range, to a call that names a table: 14 with 0 and 0 by a number that names none; else what the second part answers on
+-- that table.
+pub record RangeOnTable (n : ℕ) (range : Range) (p : ℕ) : Type 0 where
+  pub unknown : unknown_table n ≡ true → prepared_judged_by (terms_on n) range p ≡ none_shown 14
+  pub named : unknown_table n ≡ false → prepared_judged_by (terms_on n) range p ≡ answer_on (ladder_named n) range p
+
+abbrev pub AnyRangeOnTable : Type 0
+AnyRangeOnTable = (n : ℕ) (range : Range) (p : ℕ) → RangeOnTable n range p
 
 -- Demand 3d on the table that a number names.
 abbrev pub AnyOrderPriceOn : Type 0
@@ -106,6 +135,9 @@ pub record JudgingLaws : Type 0 where
   pub shown_is_exactly : ShownIsExactly
   pub range_or_none : RangeOrNone
   pub any_order_price : AnyOrderPrice
+  pub both_parts : BothParts
+  pub any_range : AnyRange
   pub judged_on_table : JudgedOnTable
+  pub any_range_on_table : AnyRangeOnTable
   pub any_order_price_on : AnyOrderPriceOn
   pub question_numbers : QuestionNumbers

@@ -1,28 +1,17 @@
-// A refusal or a verdict as its number, and the answers.
+// A verdict as its number, answers, and the answer to a question.
 ghost use Rattle.std.specs.Prelude.{◌≡◌, Some};
 ghost use Rattle.ladder.specs.Layout.{prices_of};
 ghost use Rattle.limits.specs.Terms.{basis_found};
-ghost use Rattle.judging.specs.Verdicts.{verdict_of};
-ghost use Rattle.judging.specs.Numbers.{refusal_number, verdict_number};
-ghost use Rattle.judging.specs.Answers.{none_shown, refused_answer, answer_with, answer_on, judged, judged_by, answer_text};
+ghost use Rattle.judging.specs.Numbers.{verdict_number};
+ghost use Rattle.judging.specs.Answers.{none_shown, refused_answer, answer_with, judged, judged_by, answer_text};
 
-use super::permitted::Permitted;
-use super::{Answer, Shown, Verdict, showing, verdicts};
-use ladder::table::SpreadTable;
+use super::{Answer, Shown, Verdict, second_part, showing};
 use limits::terms::{BadTerms, Terms};
-use questions::{QUESTION_BYTES, decoding};
-use ranges::{Range, Refusal, readings};
+use preparing::first_part;
+use preparing::reasons::refusal_number;
+use questions::decoding;
+use ranges::Refusal;
 use std::fmt;
-
-// The answer number for bytes that are no question.
-pub const WRONG_LENGTH: u32 = 1;
-
-// The number of a refusal.
-pub fn refusal_number(refusal: Refusal) -> u32
-    ensures { result ≡ refusal_number refusal }
-{
-    refusal as u32
-}
 
 // The number of a verdict.
 pub fn verdict_number(verdict: Verdict) -> u32
@@ -47,18 +36,11 @@ pub fn none_shown(number: u32) -> Answer
     answer(number, showing::NONE)
 }
 
-// The answer to a question that is refused.
+// The answer where codes or references are refused.
 pub fn refused(refusal: Refusal) -> Answer
     ensures { result ≡ refused_answer refusal }
 {
     none_shown(refusal_number(refusal))
-}
-
-// The number of the verdict on a price against a range.
-pub(crate) fn number_on(table: &SpreadTable, range: Range, price: u32) -> u32
-    ensures { result ≡ verdict_number (verdict_of (prices_of table.now) range price) }
-{
-    verdict_number(verdicts::verdict_on(table, range, price))
 }
 
 // An answer with a range.
@@ -72,31 +54,17 @@ pub(crate) fn answer(number: u32, shown: Shown) -> Answer
     }
 }
 
-// The answer to a price against any range.
-pub fn answer_on(table: &SpreadTable, range: Range, price: u32) -> Answer
-    ensures { result ≡ answer_on (prices_of table.now) range price }
-{
-    let number = number_on(table, range, price);
-    answer(number, showing::shown_of(table, range))
-}
-
-// The answer to a question as bytes.
-#[tactic(auto, unfolding(crate::specs::Answers::judged))]
+// The answer to a question as bytes, by both parts.
+#[tactic(auto, using(crate::proofs::Parts::told_why, crate::proofs::Parts::priced, crate::proofs::Parts::has_bytes))]
 pub fn judge(terms: &Terms, question: &[u8]) -> Answer
     ensures { result ≡ judged (prices_of terms.now.table) terms.now.percentage question.now }
 {
-    let Some(asked) = decoding::decode(question) else {
-        return none_shown(WRONG_LENGTH);
+    let prepared = first_part::prepare(terms, question);
+    let Ok(range) = prepared else {
+        return none_shown(prepared.unwrap_err().number());
     };
-    let reading = readings::reading_of(terms, asked.codes, asked.references);
-    let Ok(range) = reading else {
-        return refused(reading.unwrap_err());
-    };
-    let permitted = Permitted {
-        table: terms.table,
-        range,
-    };
-    permitted.answer(asked.price)
+    let price = decoding::price_of(question);
+    second_part::judge_prepared(&terms.table, range, price)
 }
 
 // The answer to a question as bytes, for a call that names its terms. That they are bad comes after 1.
@@ -105,7 +73,6 @@ pub fn judge_by(found: &Result<Terms, BadTerms>, question: &[u8]) -> Answer
 {
     match found {
         Ok(terms) => judge(terms, question),
-        Err(bad) if question.len() == QUESTION_BYTES => none_shown(bad.number()),
-        Err(_) => none_shown(WRONG_LENGTH),
+        Err(bad) => none_shown(first_part::without_terms(*bad, question).number()),
     }
 }

@@ -69,15 +69,17 @@ pub(crate) fn shown_between(from: Option<u32>, to: Option<u32>) -> Shown
     }
 }
 
-// The range that is shown, of any range: its bounds are cut, and then rounded to the ladder.
+// The range that is shown, of any range: its bounds are cut, and rounded to the ladder.
+#[tactic(auto, using(crate::proofs::Cuts::shown_falling, crate::proofs::Cuts::shown_rounded))]
+#[inline(always)]
 pub fn shown_of(table: &SpreadTable, range: Range) -> Shown
     ensures { result ≡ shown_of (prices_of table.now) range }
 {
-    let nine_fold = range.nine_fold;
-    let from = cut_lowest(range.lowest, nine_fold);
-    let to = cut_highest(range.highest, nine_fold);
-    shown_between(
-        table.at_least(1, u64::from(from)),
-        table.at_most(1, u64::from(to)),
-    )
+    let from = cut_lowest(range.lowest, range.nine_fold);
+    let to = cut_highest(range.highest, range.nine_fold);
+    // Nothing is shown then, and nothing need be rounded.
+    if to < from {
+        return NONE;
+    }
+    shown_between(table.at_or_above(from), table.at_or_below(to))
 }

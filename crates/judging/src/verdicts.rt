@@ -4,18 +4,19 @@ ghost use Rattle.ladder.specs.Layout.{prices_of};
 ghost use Rattle.judging.specs.Verdicts.{verdict_of};
 
 use super::{Verdict, showing};
-use ladder::table::SpreadTable;
+use ladder::looked_up::LookedUp;
 use ranges::Range;
 
-// The verdict on a price.
+// The verdict on a price that is looked up.
 #[tactic(auto, unfolding(crate::specs::Verdicts::verdict_of))]
-pub fn verdict_on(table: &SpreadTable, range: Range, price: u32) -> Verdict
-    ensures { result ≡ verdict_of (prices_of table.now) range price }
+pub fn verdict_on(range: Range, looked_up: &LookedUp) -> Verdict
+    ensures { result ≡ verdict_of (prices_of looked_up.now.table) range looked_up.now.price }
 {
-    if table.is_outside(price) {
+    let price = looked_up.price;
+    if looked_up.is_outside() {
         return Verdict::OutsideLadder;
     }
-    if !table.holds(price) {
+    if !looked_up.is_on() {
         return Verdict::BetweenPrices;
     }
     if price < range.lowest {

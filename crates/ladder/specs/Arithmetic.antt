@@ -1,6 +1,6 @@
 -- Band arithmetic: in which band a price lies and whether it stands there, one turn of a walk, and so many places up.
 -- Only functions inside this crate speak of these; what other crates may call is told by the other files.
-use Rattle.std.specs.Prelude.{◌≡◌, ℕ, zero, suc, ◌+◌, ◌-◌, ◌*◌, ◌/◌, ◌%◌, ◌≤◌, ◌<◌, cond, List, [], ◌∷◌, leb, ltb, length, get_or, Option, Some, None, count_by}
+use Rattle.std.specs.Prelude.{◌≡◌, ℕ, zero, suc, ◌+◌, ◌-◌, ◌*◌, ◌/◌, ◌%◌, ◌≤◌, ◌<◌, Bool, false, ◌&&◌, cond, List, [], ◌∷◌, leb, ltb, length, get_or, Option, Some, None, count_by}
 use Rattle.ladder.specs.declared.search.Lies.{Lies}
 use Rattle.ladder.specs.declared.turns.Turn.{Turn}
 use Rattle.ladder.specs.declared.turns.Turn.TheVariants.{Ends, Leaves}
@@ -30,6 +30,15 @@ pub record LiesIn (t : Table) (p : ℕ) (found : Lies) : Type 0 where
   pub low_top : found.band.top < price_limit
   pub spread : 0 < found.band.spread
   pub inverse : found.inverse ≡ inverse_of found.band.spread
+
+-- two prices lie between the ends of band k
+abbrev pub spans : ℕ → ℕ → Table → Option ℕ → Bool
+spans low high t None = false
+spans low high t (Some k) = leb (get_or t k no_band).bottom low && leb high (get_or t k no_band).top
+
+-- p is a ladder price, and so are a lower and a higher one, all three of the band where p lies
+abbrev pub in_one_band : ℕ → ℕ → ℕ → Table → Bool
+in_one_band low p high t = spans low high t (band_of p (length t) t) && (holds low (ladder t) && holds p (ladder t) && holds high (ladder t))
 
 -- p stands in band k of a table, or on its bottom: it is a ladder price
 pub record StandsIn (t : Table) (k p : ℕ) : Type 0 where

@@ -11,6 +11,8 @@ mod turns; // turns.rt: one band of a walk
 mod rise; // rise.rt: so many places up, from a price of a band
 mod places; // places.rt: place to price, price to place
 mod steps; // steps.rt: n spreads up and down
+pub mod looked_up; // looked_up.rt: a price that is looked up once
+mod nearest; // nearest.rt: the ladder prices next to a price
 mod rounding; // rounding.rt: the ladder prices next to a threshold
 mod ends; // ends.rt: the first and the last price, and what is outside them
 pub mod numbers; // numbers.rt: products that do not wrap

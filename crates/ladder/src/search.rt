@@ -4,6 +4,7 @@
 ghost use Rattle.std.specs.Prelude.{◌≡◌, ◌≤◌, ◌<◌, length, get_or, IfSome, is_none};
 ghost use Rattle.std.specs.List.{find};
 ghost use Rattle.std.specs.Option.{option_map};
+ghost use Rattle.facts.specs.Lists.{holds};
 ghost use Rattle.tables.specs.Bands.{no_band};
 ghost use Rattle.ladder.specs.Trying.{indexes, is_over, lands, sought, band_of};
 ghost use Rattle.tables.specs.Inverses.{inverse_of};
@@ -143,14 +144,24 @@ impl SpreadTable<'_> {
         })
     }
 
+    // Whether a price that lies in a band, or on its bottom, is on the ladder.
+    #[tactic(auto, using(crate::proofs::Tables::Stands::told_by_remainder))]
+    #[inline(always)]
+    pub(crate) fn is_on(&self, found: Lies, price: u32) -> bool
+        requires { LiesIn self.now.bands.now price found }
+        ensures { result ≡ holds price (prices_of self.now) }
+    {
+        let over = price - found.band.bottom;
+        is_multiple(over, found.band.spread, found.inverse)
+    }
+
     // The index of the band in which a price stands; none for a price off the ladder.
     #[inline(always)]
     pub(crate) fn standing_of(&self, price: u32) -> Option<usize>
         ensures { result ≡ standing_of price self.now.bands.now }
     {
         let found = self.lies(price)?;
-        let over = price - found.band.bottom;
-        let is_on = is_multiple(over, found.band.spread, found.inverse);
+        let is_on = self.is_on(found, price);
         is_on.then_some(found.index)
     }
 }

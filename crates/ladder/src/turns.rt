@@ -16,8 +16,12 @@ pub(crate) fn turn_in(left: u64, spread: u32, room: u32) -> Turn
     requires { 0 < spread }
     ensures { result ≡ turn_of left spread room }
 {
-    match left.checked_mul(u64::from(spread)) {
-        Some(mils) if mils <= u64::from(room) => Turn::Ends(mils as u32),
-        _ => Turn::Leaves(left - u64::from(room / spread)),
+    // More spreads than there are mils do not fit. Up to that many, times the spread, have 64 bits.
+    if left <= u64::from(room) {
+        let mils = left * u64::from(spread);
+        if mils <= u64::from(room) {
+            return Turn::Ends(mils as u32);
+        }
     }
+    Turn::Leaves(left - u64::from(room / spread))
 }

@@ -26,7 +26,7 @@ fn put_line(text: &mut Filling, number: u64, answer: Answer)
     text.put_field(number, b' ');
 }
 
-// Writes the lines of the first `count` questions.
+// Writes the lines of the first `count` questions, each judged by its first and its second part.
 fn put_lines(terms: &Terms, questions: &[u8], count: usize, first: u64, text: &mut Filling)
     requires asked { count * question_bytes ≤ length questions.now }
     requires numbers { first + count < 18446744073709551616 }

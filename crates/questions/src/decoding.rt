@@ -2,7 +2,7 @@
 ghost use Rattle.std.specs.Prelude.{◌≡◌, ◌+◌, ◌≤◌, length};
 ghost use Rattle.little_endian.specs.Numbers.{number};
 ghost use Rattle.questions.specs.Missing.{reference_of};
-ghost use Rattle.questions.specs.Record.{codes_of, references_of, decoded};
+ghost use Rattle.questions.specs.Record.{price_byte, codes_of, price_of, references_of, decoded};
 
 use super::{Codes, QUESTION_BYTES, Question, Reference, References};
 
@@ -16,6 +16,14 @@ fn codes_of(s: &[u8; QUESTION_BYTES]) -> Codes
         queue: s[2],
         byte_3: s[3],
     }
+}
+
+// The order price of a question.
+pub fn price_of(s: &[u8]) -> u32
+    requires { price_byte + 4 ≤ length s.now }
+    ensures { result ≡ price_of s.now }
+{
+    little_endian::number_at(s, 4)
 }
 
 fn reference_at(s: &[u8], at: usize) -> Reference
@@ -48,7 +56,7 @@ pub fn decode(s: &[u8]) -> Option<Question>
     let record = s.as_array()?;
     Some(Question {
         codes: codes_of(record),
-        price: little_endian::number_at(record, 4),
+        price: price_of(record),
         references: references_of(record),
     })
 }

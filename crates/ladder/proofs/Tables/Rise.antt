@@ -10,19 +10,13 @@ use lib.ListN.{length}
 use Rattle.tables.specs.declared.Band.{Band}
 use Rattle.tables.specs.Bands.{well_formed}
 use Rattle.ladder.specs.Ladder.{width, ladder}
-use Rattle.std.specs.Option.{unwrap_or}
-use Rattle.facts.specs.Lists.{holds}
-use Rattle.ladder.specs.Places.{price_at, first_price, last_price}
-use Rattle.ladder.specs.Spreads.{spread_up, times}
-use Rattle.ladder.specs.declared.turns.Turn.{Turn}
+use Rattle.ladder.specs.Places.{price_at, first_price}
 use Rattle.ladder.specs.declared.turns.Turn.TheVariants.{Ends, Leaves}
 use Rattle.ladder.specs.Arithmetic.{StandsIn, PlacesUp, places_below, turn_of}
 use Rattle.ladder.proofs.Lists.Entries.{place_of_entry}
 use Rattle.ladder.proofs.Tables.Chain.{Whole, band_at}
 use Rattle.ladder.proofs.Tables.Table.{Index, index_in, table_facts, first_is_start, ladder_rises, entry, is_whole}
-use Rattle.ladder.proofs.Tables.Walks.{Told, turn_ends, turn_leaves, on_bottom, on_top, into_next}
-use Rattle.ladder.proofs.Tables.Stands.{in_band_held}
-use Rattle.ladder.proofs.Lists.Going.{rise_halts}
+use Rattle.ladder.proofs.Tables.Walks.{turn_ends, turn_leaves, on_bottom, into_next}
 use Rattle.ladder.proofs.Tables.Counting.{places_more, price_past}
 
 -- what a walk of n places up from `price` keeps, from band to band: it stands in band k, the one to come, or there is no more, and no price;
@@ -113,35 +107,3 @@ module _ (t : List Band) (wf : T (well_formed t)) (price n at left k : ℕ) (h :
         past = λ m. past_top t wf k h (omega (arith, m)) (left - ((band_at t k).top - at) / (band_at t k).spread) on.0;
         leads = λ v u. w.leads v (on.1 v u);
       })
-
--- what a turn tells a walk up by spreads
-module _ (t : List Band) (wf : T (well_formed t)) (price n at left k : ℕ) (on : StandsIn t k at) (b : Band) (f : b ≡ band_at t k) where
-  pub told_up : times left (spread_up (ladder t)) at ≡ times n (spread_up (ladder t)) price → (turn : Turn) →
-      turn ≡ turn_of left b.spread (b.top - at) → Told (spread_up (ladder t)) price n (b.top - at) b.top (λ m. at + m) turn
-  told_up leads turn is = record { ends = ends; leaves = leaves }
-    where
-      x : Index (band_at t k) at
-      x = index_in t wf k on.index at on
-
-      halts : (i p : ℕ) → T (holds p (ladder t)) → (v : Option ℕ) → PlacesUp (ladder t) p i v → unwrap_or v (last_price (ladder t)) ≡ times i (spread_up (ladder t)) p
-      halts = rise_halts (ladder t) (ladder_rises t wf)
-
-      ends : (mils : ℕ) → turn ≡ Ends mils → (mils ≤ b.top - at) × (at + mils ≡ times n (spread_up (ladder t)) price)
-      ends mils e =
-          let r = turn_ends left b.spread (b.top - at) mils (sym e ∙ is) in (
-            omega arith,
-            rw (r.0, f)
-                (halts left at (in_band_held t wf at k on) (Some (at + left * (band_at t k).spread)) (ends_up t wf k on.index at on.high x left (rw f at r.1))) ∙
-                leads,
-          )
-
-      leaves : (rest : ℕ) → turn ≡ Leaves rest → times rest (spread_up (ladder t)) b.top ≡ times n (spread_up (ladder t)) price
-      leaves rest e =
-          let r = turn_leaves left b.spread (b.top - at) rest (sym e ∙ is) in
-          let more = left - ((band_at t k).top - at) / (band_at t k).spread in
-          let v = price_at (places_below k t + width (band_at t k) + more) (ladder t) in
-          let above = pinned t wf (places_below k t + width (band_at t k)) (band_at t k).top more v (top_entry t wf k on.index) refl in
-          rw (r.0, f)
-          (sym (halts more (band_at t k).top (in_band_held t wf (band_at t k).top k (on_top t wf k on.index)) v above) ∙
-          halts left at (in_band_held t wf at k on) v ((leaves_up t wf k on.index at on.high x left (rw f at r.1)).1 v above)) ∙
-          leads

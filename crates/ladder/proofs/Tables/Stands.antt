@@ -37,6 +37,22 @@ pub record Inside (t : List Band) (k p : ℕ) : Type 0 where
   pub low : (band_at t k).bottom ≤ p
   pub high : p ≤ (band_at t k).top
 
+pub is_inside : (t : List Band) (p : ℕ) (found : Lies) → LiesIn t p found → Inside t found.index p
+is_inside t p found lies = record { index = lies.index; low = rw lies.is at lies.low; high = rw lies.is at lies.high }
+
+-- another price of the same band lies there too
+pub lies_too : (t : List Band) (p : ℕ) (found : Lies) → LiesIn t p found → (q : ℕ) → found.band.bottom ≤ q → q ≤ found.band.top → LiesIn t q found
+lies_too t p found lies q low high =
+    record {
+      index = lies.index;
+      is = lies.is;
+      low = low;
+      high = high;
+      low_top = lies.low_top;
+      spread = lies.spread;
+      inverse = lies.inverse;
+    }
+
 module _ (t : List Band) (wf : T (well_formed t)) (p : ℕ) where
   -- a band that holds a price
   pub lands_inside_band : (k : ℕ) → Lands 1 p t k → Inside t k p
@@ -136,23 +152,31 @@ module _ (t : List Band) (wf : T (well_formed t)) (p : ℕ) where
       go false i = absurd (grind arith)
 
   -- p is on the ladder exactly where it exceeds the bottom of its band by a multiple of its spread
-  module _ (found : Lies) (e : Some found.index ≡ band_of p (length t) t) (lies : LiesIn t p found) where
-    pub stands_where : then_some (eqb ((p - found.band.bottom) % found.band.spread) 0) found.index ≡ standing_of p t
-    stands_where = go (eqb ((p - found.band.bottom) % found.band.spread) 0) refl
+  module _ (found : Lies) (lies : LiesIn t p found) where
+    pub told_by_remainder : eqb ((p - found.band.bottom) % found.band.spread) 0 ≡ holds p (ladder t)
+    told_by_remainder = go (eqb ((p - found.band.bottom) % found.band.spread) 0) refl
       where
         inside : Inside t found.index p
-        inside = found_inside found.index e
+        inside = is_inside t p found lies
 
-        go : (v : Bool) → eqb ((p - found.band.bottom) % found.band.spread) 0 ≡ v → then_some v found.index ≡ standing_of p t
+        go : (v : Bool) → eqb ((p - found.band.bottom) % found.band.spread) 0 ≡ v → v ≡ holds p (ladder t)
         go true i =
             let stood : StandsIn t found.index p =
             record { index = inside.index; low = inside.low; high = inside.high; multiple = rw lies.is at (eqb-true _ _ i) } in
-            rw (passed (holds p (ladder t)) (in_band_held t wf p found.index stood)) e
-        go false i = rw (failed (holds p (ladder t)) (λ on. eqb-false _ _ i (rw lies.is (held_multiple t wf p on found.index inside))))
+            sym (passed (holds p (ladder t)) (in_band_held t wf p found.index stood))
+        go false i = sym (failed (holds p (ladder t)) (λ on. eqb-false _ _ i (rw lies.is (held_multiple t wf p on found.index inside))))
 
-  -- where there is none, p is not on the ladder
-  pub none_stands : true ≡ is_outside p (ladder t) → None ≡ standing_of p t
-  none_stands o = rw (failed (holds p (ladder t)) (λ on. true≢false (o ∙ held_within (ladder t) (ladder_rises t wf) p on)))
+  -- the band where p lies is that in which it stands, if it stands
+  pub stands_where : (index : ℕ) → Some index ≡ band_of p (length t) t → then_some (holds p (ladder t)) index ≡ standing_of p t
+  stands_where index e = go (holds p (ladder t))
+    where
+      go : (v : Bool) → then_some v index ≡ cond v (band_of p (length t) t) None
+      go true = e
+      go false = refl
+
+  -- outside the ends p is not on the ladder
+  pub outside_off : true ≡ is_outside p (ladder t) → holds p (ladder t) ≡ false
+  outside_off o = failed (holds p (ladder t)) (λ on. true≢false (o ∙ held_within (ladder t) (ladder_rises t wf) p on))
 
   -- the band in which a ladder price stands
   pub standing_stands : (k : ℕ) → standing_of p t ≡ Some k → StandsIn t k p

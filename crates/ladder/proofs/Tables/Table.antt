@@ -72,10 +72,6 @@ module _ (t : List Band) (wf : T (well_formed t)) where
   unfolding last_after
   last_is_top k e = let f = table_facts t wf in rw f.list (last_top (start t) t f.chain k (omega arith))
 
-  pub last_listed : last_price (ladder t) ≡ last_after (start t) (band_prices t)
-  unfolding last_after
-  last_listed = rw (table_facts t wf).list
-
   -- outside it is what is below the first or above the last
   pub outside_is : (p : ℕ) → is_outside p (ladder t) ≡ (ltb p (first_price (ladder t)) || ltb (last_price (ladder t)) p)
   unfolding is_outside

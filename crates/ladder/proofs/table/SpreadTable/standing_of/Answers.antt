@@ -7,6 +7,5 @@ use Rattle.ladder.proofs.table.SpreadTable.standing_of.Goals as goal
 pub returns : goal.returns
 returns c =
     c.then_some.ensures ∙
-    (ap (λ on. then_some on c.in_ok-found.found.index) c.is_multiple-is_on.ensures ∙
-    stands_where c.args.self.now.bands.now c.args.self.now.is_well_formed c.args.price c.in_ok-found.found c.in_ok-found.ensures.index
-    c.in_ok-found.ensures.lies)
+    (ap (λ on. then_some on c.in_ok-found.found.index) c.is_on-is_on.ensures ∙
+    stands_where c.args.self.now.bands.now c.args.self.now.is_well_formed c.args.price c.in_ok-found.found.index c.in_ok-found.ensures.index)

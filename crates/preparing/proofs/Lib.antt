@@ -1,0 +1,3 @@
+-- Laws: what other crates see. Fields: questions that agree but for the order price.
+pub mod Laws
+mod Fields
