@@ -41,7 +41,7 @@ answer_by l (Err refusal) p = refused_answer refusal
 abbrev pub answer_to : Prices → Percentage → Question → Answer
 answer_to l percent q = answer_by l (reading_of l percent q.codes q.references) q.price
 
--- the answer to a question as bytes; to bytes of another length, with 0 and 0
+-- the answer to a question as bytes; to bytes of another length 1, with 0 and 0
 abbrev pub answer_decoded : Prices → Percentage → Option Question → Answer
 answer_decoded l percent (Some q) = answer_to l percent q
 answer_decoded l percent None = none_shown wrong_length
