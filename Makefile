@@ -6,7 +6,7 @@
 
 PREFIX = /usr/local
 DESTDIR =
-VERSION = 1.5.0
+VERSION = 2.0.0
 
 CFLAGS = -O2
 STRICT = -std=c11 -Wall -Wextra -Wpedantic -Wconversion -Werror

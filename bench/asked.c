@@ -7,6 +7,7 @@
 #include <string.h>
 
 #include "draw.h"
+#include "hendovita.h"
 #include "mixes.h"
 #include "plain.h"
 
@@ -21,7 +22,7 @@ int main(int count, char **words)
     plain_begin();
     draw_begin(&draw, 1);
     for (long left = atol(words[2]); left > 0; left--) {
-        uint8_t question[40];
+        uint8_t question[HENDOVITA_QUESTION_BYTES];
         if (strcmp(words[1], "usual") == 0)
             mix_usual(&draw, question);
         else

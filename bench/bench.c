@@ -20,7 +20,11 @@
 
 enum { QUESTIONS = 100000, ROUNDS = 15, MOST = 1000 };
 
-static uint8_t questions[QUESTIONS * 40];
+/* Both read the same bytes. */
+_Static_assert((int)QUICK_QUESTION_BYTES == HENDOVITA_QUESTION_BYTES,
+               "a question to the one is a question to the other");
+
+static uint8_t questions[QUESTIONS][HENDOVITA_QUESTION_BYTES];
 static uint8_t answers[2][QUESTIONS * 12];
 
 /* Ends the run where a batch was refused: its time means nothing. */
@@ -38,7 +42,7 @@ static double time_library(size_t n)
     size_t judged = 0;
     double begin = now();
     for (size_t k = 0; k < QUESTIONS; k += n)
-        judged += hendovita_judge_batch(questions + 40 * k, 40 * n,
+        judged += hendovita_judge_batch(questions[k], n * sizeof *questions,
                                         answers[0] + 12 * k, 12 * n).count;
     double seconds = now() - begin;
     all_judged(judged);
@@ -51,7 +55,7 @@ static double time_quick(size_t n)
     size_t judged = 0;
     double begin = now();
     for (size_t k = 0; k < QUESTIONS; k += n)
-        judged += quick_judge_batch(questions + 40 * k, 40 * n,
+        judged += quick_judge_batch(questions[k], n * sizeof *questions,
                                     answers[1] + 12 * k, 12 * n).count;
     double seconds = now() - begin;
     all_judged(judged);
@@ -87,13 +91,13 @@ static void compare(void)
 }
 
 static void run(const char *name,
-                void (*mix)(struct draw *, uint8_t question[40]))
+                void (*mix)(struct draw *, uint8_t *question))
 {
     static const size_t sizes[] = {1, 10, 100, 1000};
     struct draw draw;
     draw_begin(&draw, 5);
     for (size_t k = 0; k < QUESTIONS; k++)
-        mix(&draw, questions + 40 * k);
+        mix(&draw, questions[k]);
     compare();
     printf("%s: million questions a second, ns a question\n"
            "  questions     library      plain C   ratio\n"
@@ -114,11 +118,12 @@ static double time_table(uint32_t table)
     size_t judged = 0;
     double begin = now();
     for (size_t k = 0; k < QUESTIONS; k += MOST) {
-        const uint8_t *asked = questions + 40 * k;
+        const uint8_t *asked = questions[k];
+        size_t bytes = MOST * sizeof *questions;
         uint8_t *room = answers[0] + 12 * k;
         judged += table == 0
-            ? hendovita_judge_batch(asked, 40 * MOST, room, 12 * MOST).count
-            : hendovita_judge_batch_on(table, asked, 40 * MOST, room,
+            ? hendovita_judge_batch(asked, bytes, room, 12 * MOST).count
+            : hendovita_judge_batch_on(table, asked, bytes, room,
                                        12 * MOST).count;
     }
     double seconds = now() - begin;
@@ -128,14 +133,14 @@ static double time_table(uint32_t table)
 
 /* The best time for a mix that is drawn on that table, ns a question. */
 static double best_on(uint32_t table,
-                      void (*mix)(struct draw *, uint8_t question[40]))
+                      void (*mix)(struct draw *, uint8_t *question))
 {
     double best = 1e9;
     struct draw draw;
     draw_begin(&draw, 5);
     plain_use(table == 0 ? PLAIN_PHASE_1 : table);
     for (size_t k = 0; k < QUESTIONS; k++)
-        mix(&draw, questions + 40 * k);
+        mix(&draw, questions[k]);
     plain_use(PLAIN_PHASE_1);
     for (int round = 0; round < ROUNDS; round++) {
         double seconds = time_table(table);

@@ -14,7 +14,7 @@
 #include "quick.h"
 #include "quick_day.h"
 
-enum { EVENTS = 100000, ROUNDS = 15, CLOSE = 20000 };
+enum { EVENTS = 100000, ROUNDS = 15, CLOSE = 20000, SECURITY_CODE = 700 };
 
 /* The two days are compared as bytes. */
 _Static_assert(sizeof(struct quick_day) == sizeof(struct hendovita_day),
@@ -82,10 +82,10 @@ static double fills_library(void)
     double begin = now();
     for (size_t k = 0; k < EVENTS; k++) {
         struct plain_asked order = orders[k];
-        uint8_t question[40];
+        uint8_t question[HENDOVITA_QUESTION_BYTES];
         if (hendovita_fill_question(days[k], order.side, order.type,
-                                    order.price, order.nominal, question,
-                                    sizeof question) == 0)
+                                    order.price, order.nominal, SECURITY_CODE,
+                                    question, sizeof question) == 0)
             judged += hendovita_judge_batch(question, sizeof question,
                                             answers[0] + 12 * k, 12).count;
     }
@@ -100,10 +100,10 @@ static double fills_quick(void)
     double begin = now();
     for (size_t k = 0; k < EVENTS; k++) {
         struct plain_asked order = orders[k];
-        uint8_t question[40];
+        uint8_t question[HENDOVITA_QUESTION_BYTES];
         if (quick_fill_question(quick_days[k], order.side, order.type,
-                                order.price, order.nominal, question,
-                                sizeof question) == 0)
+                                order.price, order.nominal, SECURITY_CODE,
+                                question, sizeof question) == 0)
             judged += quick_judge_batch(question, sizeof question,
                                         answers[1] + 12 * k, 12).count;
     }

@@ -12,12 +12,13 @@
 
 enum { MOST = 1000 };
 
-static uint8_t questions[MOST * 40];
+static uint8_t questions[MOST * HENDOVITA_QUESTION_BYTES];
 static uint8_t answers[MOST * 12];
 
 int main(int count, char **words)
 {
-    size_t asked = fread(questions, 40, MOST, stdin);
+    size_t asked = fread(questions, HENDOVITA_QUESTION_BYTES, MOST, stdin);
+    size_t bytes = asked * HENDOVITA_QUESTION_BYTES;
     size_t judged = 0;
     if (count != 3) {
         fprintf(stderr, "judged library|quick TIMES\n");
@@ -25,10 +26,9 @@ int main(int count, char **words)
     }
     for (long left = atol(words[2]); left > 0; left--)
         judged = strcmp(words[1], "library") == 0
-            ? hendovita_judge_batch(questions, 40 * asked, answers,
+            ? hendovita_judge_batch(questions, bytes, answers,
                                     12 * asked).count
-            : quick_judge_batch(questions, 40 * asked, answers,
-                                12 * asked).count;
+            : quick_judge_batch(questions, bytes, answers, 12 * asked).count;
     if (judged != asked) {
         fprintf(stderr, "a batch was refused\n");
         return 1;

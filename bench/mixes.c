@@ -4,7 +4,6 @@
 #include "mixes.h"
 
 #include "draw_event.h"
-#include "hendovita.h"
 
 /* A ladder price at most so many spreads away. */
 static uint32_t near(struct draw *draw, uint32_t price, uint32_t spreads)
@@ -31,7 +30,12 @@ static uint32_t near_quotes(struct draw *draw, uint8_t side, uint32_t bid,
                                  : plain_up(bid, draw_below(draw, 26));
 }
 
-void mix_usual(struct draw *draw, uint8_t question[40])
+static uint32_t any_code(struct draw *draw)
+{
+    return 1 + draw_below(draw, HENDOVITA_LAST_SECURITY_CODE);
+}
+
+void mix_usual(struct draw *draw, uint8_t question[HENDOVITA_QUESTION_BYTES])
 {
     uint32_t bid = draw_between(draw, 510, 50000);
     struct hendovita_question q = {0};
@@ -47,6 +51,7 @@ void mix_usual(struct draw *draw, uint8_t question[40])
         q.queue = HENDOVITA_BUY_QUEUE_ONLY;
         q.current_ask = 0;
     }
+    q.security_code = any_code(draw);
     hendovita_put_question(question, &q);
 }
 
@@ -60,14 +65,16 @@ static uint32_t maybe(struct draw *draw)
     return draw_one_in(draw, 3) ? 0 : anywhere(draw);
 }
 
-uint32_t mix_usual_price(struct draw *draw, const uint8_t question[40])
+uint32_t mix_usual_price(struct draw *draw,
+                         const uint8_t question[HENDOVITA_QUESTION_BYTES])
 {
     uint32_t bid = hendovita_get_number(question + 8);
     uint32_t ask = hendovita_get_number(question + 12);
     return near_quotes(draw, question[0], bid, ask != 0 ? ask : bid);
 }
 
-uint32_t mix_random_price(struct draw *draw, const uint8_t question[40])
+uint32_t mix_random_price(struct draw *draw,
+                          const uint8_t question[HENDOVITA_QUESTION_BYTES])
 {
     (void)question;
     return anywhere(draw);
@@ -88,7 +95,7 @@ static void set_quotes(struct draw *draw, struct hendovita_question *q)
     }
 }
 
-void mix_random(struct draw *draw, uint8_t question[40])
+void mix_random(struct draw *draw, uint8_t question[HENDOVITA_QUESTION_BYTES])
 {
     struct hendovita_question q = {0};
     q.side = (uint8_t)(1 + draw_below(draw, 2));
@@ -101,9 +108,11 @@ void mix_random(struct draw *draw, uint8_t question[40])
     if (q.day_low != 0)
         q.day_high = draw_between(draw, q.day_low, PLAIN_LAST);
     q.nominal = maybe(draw);
+    q.security_code = any_code(draw);
     hendovita_put_question(question, &q);
     if (draw_one_in(draw, 5))
-        question[draw_below(draw, 40)] ^= (uint8_t)(1 + draw_below(draw, 255));
+        question[draw_below(draw, HENDOVITA_QUESTION_BYTES)] ^=
+            (uint8_t)(1 + draw_below(draw, 255));
 }
 
 /* A price of the day, from which the next ones are not far. */

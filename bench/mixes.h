@@ -8,6 +8,7 @@
 #include <stdint.h>
 
 #include "draw.h"
+#include "hendovita.h"
 #include "plain.h"
 
 /*
@@ -16,17 +17,19 @@
  * some percent of them, the order price near the quotes. Most have both
  * queues, most are limit orders, nearly all are accepted.
  */
-void mix_usual(struct draw *draw, uint8_t question[40]);
+void mix_usual(struct draw *draw, uint8_t question[HENDOVITA_QUESTION_BYTES]);
 
 /*
  * Anything: codes and references at random over the whole ladder, the order
- * price anywhere on it; a fifth of the questions is damaged.
+ * price anywhere on it; a fifth of the questions is damaged in one byte.
  */
-void mix_random(struct draw *draw, uint8_t question[40]);
+void mix_random(struct draw *draw, uint8_t question[HENDOVITA_QUESTION_BYTES]);
 
 /* An order price against such a question: near the quotes; anywhere. */
-uint32_t mix_usual_price(struct draw *draw, const uint8_t question[40]);
-uint32_t mix_random_price(struct draw *draw, const uint8_t question[40]);
+uint32_t mix_usual_price(struct draw *draw,
+                         const uint8_t question[HENDOVITA_QUESTION_BYTES]);
+uint32_t mix_random_price(struct draw *draw,
+                          const uint8_t question[HENDOVITA_QUESTION_BYTES]);
 
 /*
  * An event as they mostly come: a bid or an ask a few spreads from the other

@@ -16,9 +16,9 @@
 
 enum { TICKETS = 200, PRICES = 500, ROUNDS = 15 };
 
-static uint8_t tickets[TICKETS][40];
+static uint8_t tickets[TICKETS][HENDOVITA_QUESTION_BYTES];
 static uint32_t prices[TICKETS][PRICES];
-static uint8_t questions[TICKETS][PRICES][40];
+static uint8_t questions[TICKETS][PRICES][HENDOVITA_QUESTION_BYTES];
 static struct hendovita_prepared prepared[TICKETS];
 static struct hendovita_answer answers[TICKETS][PRICES];
 static uint8_t answer_bytes[TICKETS][PRICES * 12];
@@ -30,10 +30,10 @@ static void draw_tickets(struct price_mix mix)
     for (int t = 0; t < TICKETS; t++) {
         do
             mix.question(&draw, tickets[t]);
-        while (hendovita_prepare(tickets[t], 40).number != 0);
+        while (hendovita_prepare(tickets[t], sizeof *tickets).number != 0);
         for (int p = 0; p < PRICES; p++) {
             prices[t][p] = mix.price(&draw, tickets[t]);
-            memcpy(questions[t][p], tickets[t], 40);
+            memcpy(questions[t][p], tickets[t], sizeof *tickets);
             hendovita_put_number(questions[t][p] + 4, prices[t][p]);
         }
     }
@@ -43,7 +43,7 @@ static double first_parts(void)
 {
     double begin = now();
     for (int t = 0; t < TICKETS; t++)
-        prepared[t] = hendovita_prepare(tickets[t], 40);
+        prepared[t] = hendovita_prepare(tickets[t], sizeof *tickets);
     return now() - begin;
 }
 
@@ -64,7 +64,7 @@ static double whole_questions(void)
     size_t judged = 0;
     double begin = now();
     for (int t = 0; t < TICKETS; t++)
-        judged += hendovita_judge_batch(questions[t][0], PRICES * 40,
+        judged += hendovita_judge_batch(questions[t][0], sizeof questions[t],
                                         answer_bytes[t], PRICES * 12).count;
     double seconds = now() - begin;
     if (judged != (size_t)TICKETS * PRICES) {

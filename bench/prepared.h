@@ -10,8 +10,8 @@
 /* A mix of questions, and of order prices against one of them. */
 struct price_mix {
     const char *name;
-    void (*question)(struct draw *, uint8_t question[40]);
-    uint32_t (*price)(struct draw *, const uint8_t question[40]);
+    void (*question)(struct draw *, uint8_t *question);
+    uint32_t (*price)(struct draw *, const uint8_t *question);
 };
 
 /* Times both on questions of a mix that have a range, and prints a line. */

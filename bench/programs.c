@@ -14,6 +14,7 @@
 #include <unistd.h>
 
 #include "clock.h"
+#include "hendovita.h"
 
 enum { QUESTIONS = 2000000, ROUNDS = 11 };
 
@@ -27,7 +28,7 @@ static void give_up(const char *what)
 }
 
 /* The questions of a mix, in a file that has no name. */
-static FILE *questions_of(void (*mix)(struct draw *, uint8_t question[40]))
+static FILE *questions_of(void (*mix)(struct draw *, uint8_t *question))
 {
     FILE *file = tmpfile();
     struct draw draw;
@@ -35,7 +36,7 @@ static FILE *questions_of(void (*mix)(struct draw *, uint8_t question[40]))
         give_up("a file of questions");
     draw_begin(&draw, 5);
     for (int k = 0; k < QUESTIONS; k++) {
-        uint8_t question[40];
+        uint8_t question[HENDOVITA_QUESTION_BYTES];
         mix(&draw, question);
         fwrite(question, 1, sizeof question, file);
     }
@@ -89,7 +90,7 @@ static void compare(FILE *questions)
 }
 
 void time_programs(const char *name,
-                   void (*mix)(struct draw *, uint8_t question[40]))
+                   void (*mix)(struct draw *, uint8_t *question))
 {
     FILE *questions = questions_of(mix);
     int nowhere = open("/dev/null", O_WRONLY);

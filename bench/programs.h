@@ -8,6 +8,6 @@
 
 /* Times both on a file of questions of a mix, and prints a line. */
 void time_programs(const char *name,
-                   void (*mix)(struct draw *, uint8_t question[40]));
+                   void (*mix)(struct draw *, uint8_t *question));
 
 #endif

@@ -10,11 +10,13 @@
 
 enum { BUY = 1, SELL };
 enum { LIMIT = 1, ENHANCED, SPECIAL };
+enum { LAST_CODE = 99999 };
 
 /* A question: 0 is a missing reference. */
 struct order {
     uint32_t side, type, queue, zero, price;
     uint32_t bid, ask, last_bid, last_ask, close, day_low, day_high, nominal;
+    uint32_t code;
 };
 
 struct answer {
@@ -95,6 +97,7 @@ static inline struct order read_order(const uint8_t *q)
         q[0], q[1], q[2], q[3], get(q + 4),
         get(q + 8), get(q + 12), get(q + 16), get(q + 20),
         get(q + 24), get(q + 28), get(q + 32), get(q + 36),
+        get(q + 40),
     };
 }
 
@@ -118,11 +121,14 @@ static inline bool has_ask(const struct order *o)
     return o->queue == BOTH || o->queue == SELL_ONLY;
 }
 
-/* Checks 2 to 5. */
+/* Checks 2 to 5, with that of the security code after 2: a code of 0 less 1
+ * wraps to a large number. */
 static inline uint32_t refusal(const struct order *o)
 {
     if (o->side - 1 > 1 || o->type - 1 > 2 || o->queue - 1 > 4 || o->zero != 0)
         return 2;
+    if (o->code - 1 >= LAST_CODE)
+        return 15;
     if (off(o->bid) || off(o->ask) || off(o->last_bid) || off(o->last_ask)
         || outside(o->close) || off(o->day_low) || off(o->day_high)
         || outside(o->nominal))
@@ -245,11 +251,12 @@ struct quick_outcome quick_judge_batch(const uint8_t *questions,
                                        size_t questions_len, uint8_t *answers,
                                        size_t answers_len)
 {
-    size_t count = questions_len / 40;
-    if (questions_len % 40 != 0 || count > 1000 || answers_len < 12 * count)
+    size_t count = questions_len / QUICK_QUESTION_BYTES;
+    if (questions_len % QUICK_QUESTION_BYTES != 0 || count > 1000
+        || answers_len < 12 * count)
         return (struct quick_outcome){1, 0};
     for (size_t k = 0; k < count; k++) {
-        struct answer answer = judge(questions + 40 * k);
+        struct answer answer = judge(questions + QUICK_QUESTION_BYTES * k);
         put(answers + 12 * k, answer.number);
         put(answers + 12 * k + 4, answer.lowest);
         put(answers + 12 * k + 8, answer.highest);

@@ -8,6 +8,8 @@
 #include <stddef.h>
 #include <stdint.h>
 
+enum { QUICK_QUESTION_BYTES = 44 };
+
 struct quick_outcome {
     uint32_t number, count;
 };

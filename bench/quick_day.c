@@ -4,6 +4,7 @@
  */
 #include "quick_day.h"
 
+#include "quick.h"
 #include "quick_parts.h"
 
 enum { BEST_BID = 1, BEST_ASK, BUY_EMPTY, SELL_EMPTY, TRADE };
@@ -93,10 +94,10 @@ static inline uint8_t queue_code(const struct quick_day *day)
 }
 
 uint32_t quick_fill_question(struct quick_day day, uint8_t side, uint8_t type,
-                             uint32_t price, uint32_t nominal,
+                             uint32_t price, uint32_t nominal, uint32_t code,
                              uint8_t *question, size_t len)
 {
-    if (len != 40)
+    if (len != QUICK_QUESTION_BYTES)
         return 1;
     question[0] = side;
     question[1] = type;
@@ -111,5 +112,6 @@ uint32_t quick_fill_question(struct quick_day day, uint8_t side, uint8_t type,
     put(question + 28, day.day_low);
     put(question + 32, day.day_high);
     put(question + 36, nominal);
+    put(question + 40, code);
     return 0;
 }

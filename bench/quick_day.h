@@ -26,7 +26,7 @@ struct quick_entered quick_open_day(uint32_t close);
 struct quick_entered quick_enter_event(struct quick_day day, uint32_t kind,
                                        uint32_t price);
 uint32_t quick_fill_question(struct quick_day day, uint8_t side, uint8_t type,
-                             uint32_t price, uint32_t nominal,
+                             uint32_t price, uint32_t nominal, uint32_t code,
                              uint8_t *question, size_t len);
 
 #endif

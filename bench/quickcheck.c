@@ -11,7 +11,7 @@
 
 enum { MOST = 1000, LINE = 48 };
 
-static uint8_t questions[40 * MOST];
+static uint8_t questions[QUICK_QUESTION_BYTES * MOST];
 static uint8_t answers[12 * MOST];
 static char text[LINE * MOST + 16];
 
@@ -67,14 +67,17 @@ int main(void)
     size_t bytes;
     do {
         bytes = fill();
-        size_t count = bytes / 40, left = bytes % 40;
+        size_t count = bytes / QUICK_QUESTION_BYTES;
+        size_t left = bytes % QUICK_QUESTION_BYTES;
         char *to = text;
-        quick_judge_batch(questions, 40 * count, answers, sizeof answers);
+        quick_judge_batch(questions, bytes - left, answers, sizeof answers);
         for (size_t k = 0; k < count; k++) {
+            const uint8_t *question = questions + QUICK_QUESTION_BYTES * k;
             to = put(to, ++number, ' ');
             to = put(to, get(answers + 12 * k), ' ');
             to = put(to, get(answers + 12 * k + 4), ' ');
-            to = put(to, get(answers + 12 * k + 8), '\n');
+            to = put(to, get(answers + 12 * k + 8), ' ');
+            to = put(to, get(question + 40), '\n');
         }
         if (left > 0)
             to += sprintf(to, "left %zu\n", left);

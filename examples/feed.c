@@ -6,6 +6,8 @@
 
 #include "hendovita.h"
 
+enum { SECURITY_CODE = 700 };
+
 /* A price in currency units; 0 is none. */
 static void print_price(uint32_t mils)
 {
@@ -53,7 +55,8 @@ static void order(struct hendovita_day day, const char *name, uint8_t side,
 {
     uint8_t question[HENDOVITA_QUESTION_BYTES];
     uint32_t number = hendovita_fill_question(
-        day, side, order_type, price, nominal, question, sizeof question);
+        day, side, order_type, price, nominal, SECURITY_CODE, question,
+        sizeof question);
     if (number != HENDOVITA_ACCEPTED) {
         fprintf(stderr, "not filled: %s\n", hendovita_text(number));
         return;
@@ -77,7 +80,8 @@ int main(void)
 {
     struct hendovita_entered opened = hendovita_open_day(20400);
     struct hendovita_day day = opened.day;
-    printf("previous close 20.400: %s\n", hendovita_text(opened.number));
+    printf("security %d, previous close 20.400: %s\n", SECURITY_CODE,
+           hendovita_text(opened.number));
     order(day, "buy limit", HENDOVITA_BUY, HENDOVITA_LIMIT, 20400, 0);
 
     day = event(day, "best bid", HENDOVITA_BEST_BID, 19900);

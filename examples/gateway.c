@@ -1,7 +1,8 @@
 /*
  * A small order gateway: it fills questions by name, hands them over as one
- * batch, and prints each verdict in words. Its argument is the number of the
- * spread table, 1 to 3; without one it is that of Phase 1.
+ * batch, and prints each verdict in words, with the security that it is for.
+ * Its argument is the number of the spread table, 1 to 3; without one it is
+ * that of Phase 1.
  */
 #include <stdio.h>
 #include <string.h>
@@ -14,22 +15,22 @@ enum { ORDERS = 6 };
 static const struct hendovita_question orders[ORDERS] = {
     {.side = HENDOVITA_BUY, .order_type = HENDOVITA_LIMIT,
      .queue = HENDOVITA_BOTH_QUEUES, .price = 19890,
-     .current_bid = 19890, .current_ask = 19900},
+     .current_bid = 19890, .current_ask = 19900, .security_code = 5},
     {.side = HENDOVITA_BUY, .order_type = HENDOVITA_LIMIT,
      .queue = HENDOVITA_BOTH_QUEUES, .price = 18890,
-     .current_bid = 19890, .current_ask = 19900},
+     .current_bid = 19890, .current_ask = 19900, .security_code = 5},
     {.side = HENDOVITA_SELL, .order_type = HENDOVITA_ENHANCED_LIMIT,
      .queue = HENDOVITA_BOTH_QUEUES, .price = 450,
-     .current_bid = 495, .current_ask = 500},
+     .current_bid = 495, .current_ask = 500, .security_code = 8},
     {.side = HENDOVITA_BUY, .order_type = HENDOVITA_LIMIT,
      .queue = HENDOVITA_BUY_QUEUE_ONLY, .price = 9000,
-     .current_bid = 1000, .nominal = 1000},
+     .current_bid = 1000, .nominal = 1000, .security_code = 17},
     {.side = HENDOVITA_BUY, .order_type = HENDOVITA_SPECIAL_LIMIT,
      .queue = HENDOVITA_NEITHER_QUEUE, .price = 2500,
-     .previous_close = 2500},
+     .previous_close = 2500, .security_code = 700},
     {.side = HENDOVITA_SELL, .order_type = HENDOVITA_LIMIT,
      .queue = HENDOVITA_OPENING, .price = 20050,
-     .previous_close = 20000},
+     .previous_close = 20000, .security_code = 99999},
 };
 
 /* A price in currency units. */
@@ -41,7 +42,8 @@ static void print_price(uint32_t mils)
 static void print_verdict(const struct hendovita_question *order,
                           struct hendovita_answer answer)
 {
-    printf("%s at ", order->side == HENDOVITA_BUY ? "buy" : "sell");
+    printf("security %u, %s at ", (unsigned)order->security_code,
+           order->side == HENDOVITA_BUY ? "buy" : "sell");
     print_price(order->price);
     printf(": %s", hendovita_text(answer.number));
     if (answer.lowest != 0) {

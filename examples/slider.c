@@ -52,7 +52,7 @@ int main(void)
     struct hendovita_question ticket = {
         .side = HENDOVITA_BUY, .order_type = HENDOVITA_ENHANCED_LIMIT,
         .queue = HENDOVITA_BOTH_QUEUES, .current_bid = 19890,
-        .current_ask = 19900, .nominal = 20000,
+        .current_ask = 19900, .nominal = 20000, .security_code = 700,
     };
     open_ticket("enhanced limit buy", ticket,
                 (const uint32_t[]){18890, 18900, 19895, 19990, 20000, 0});
@@ -60,12 +60,15 @@ int main(void)
     ticket = (struct hendovita_question){
         .side = HENDOVITA_BUY, .order_type = HENDOVITA_LIMIT,
         .queue = HENDOVITA_BUY_QUEUE_ONLY, .current_bid = 1000,
-        .nominal = 1000,
+        .nominal = 1000, .security_code = 17,
     };
     open_ticket("limit buy", ticket,
                 (const uint32_t[]){750, 760, 8990, 9000, 9995005, 0});
 
     ticket.order_type = HENDOVITA_SPECIAL_LIMIT;
     open_ticket("special limit buy", ticket, (const uint32_t[]){1000, 0});
+
+    ticket.security_code = 0;
+    open_ticket("buy of no security", ticket, (const uint32_t[]){1000, 0});
     return 0;
 }

@@ -25,9 +25,7 @@
  *
  * Calls that name a table by number end in _on. Those that name a table and a
  * rate will end in _at, those that are given a table of one's own in _own. They
- * come beside the calls below, which keep their names and signatures. A later
- * version that puts a security code into the question changes the record
- * itself: its size, and struct hendovita_question.
+ * come beside the calls below, which keep their names and signatures.
  */
 #ifndef HENDOVITA_H
 #define HENDOVITA_H
@@ -50,9 +48,10 @@ extern "C" {
 /* ---- sizes ---------------------------------------------------------- */
 
 enum {
-    HENDOVITA_QUESTION_BYTES = 40,
+    HENDOVITA_QUESTION_BYTES = 44,
     HENDOVITA_ANSWER_BYTES = 12,
-    HENDOVITA_MOST_QUESTIONS = 1000 /* in a batch */
+    HENDOVITA_MOST_QUESTIONS = 1000, /* in a batch */
+    HENDOVITA_LAST_SECURITY_CODE = 99999 /* the first is 1 */
 };
 
 /* ---- spread tables --------------------------------------------------- */
@@ -76,8 +75,8 @@ enum hendovita_table {
 /* ---- answer numbers, by who can cause them -------------------------- */
 
 /* The checks run in the order of their numbers, with 14 after 1 and before 2,
- * and the first that applies gives the number. Each call below says which
- * numbers it returns. */
+ * and 15 after 2 and before 3, and the first that applies gives the number.
+ * Each call below says which numbers it returns. */
 enum hendovita_number {
     HENDOVITA_ACCEPTED = 0,
 
@@ -85,6 +84,7 @@ enum hendovita_number {
     HENDOVITA_BAD_LENGTH = 1,     /* see each call */
     HENDOVITA_UNKNOWN_TABLE = 14, /* a table number that is not 1 to 3 */
     HENDOVITA_UNKNOWN_CODE = 2,   /* side, order type, queue code or byte 3 */
+    HENDOVITA_BAD_SECURITY_CODE = 15, /* a security code not 1 to 99999 */
 
     /* the reference feed */
     HENDOVITA_REFERENCE_OFF_LADDER = 3, /* present, and no ladder price; of
@@ -122,6 +122,8 @@ static inline const char *hendovita_text(uint32_t number)
         return "table number not 1 to 3";
     case HENDOVITA_UNKNOWN_CODE:
         return "side, order type or queue code unknown, or byte 3 not zero";
+    case HENDOVITA_BAD_SECURITY_CODE:
+        return "security code not 1 to 99999";
     case HENDOVITA_REFERENCE_OFF_LADDER:
         return "bid, ask or day price off the ladder, or close or nominal "
                "outside its ends";
@@ -189,11 +191,13 @@ enum hendovita_queue {
 };
 
 /*
- * A question is 40 bytes: the side, the order type, the queue code and 0, a
- * byte each; then nine numbers of 4 bytes, the lowest first: order price,
+ * A question is 44 bytes: the side, the order type, the queue code and 0, a
+ * byte each; then ten numbers of 4 bytes, the lowest first: order price,
  * current bid, current ask, last bid, last ask, previous close, day low, day
- * high, nominal price. A missing reference is 0; an order price of 0 is a bad
- * price. Here with its fields by name.
+ * high, nominal price, security code. A missing reference is 0; an order price
+ * of 0 is a bad price. The security code, 1 to 99999, says whose question it is
+ * and alters no answer; any other number there, as a 0 that was never set, gets
+ * 15. Here with its fields by name.
  */
 struct hendovita_question {
     uint8_t side, order_type, queue;
@@ -203,9 +207,10 @@ struct hendovita_question {
     uint32_t previous_close;
     uint32_t day_low, day_high;
     uint32_t nominal;
+    uint32_t security_code;
 };
 
-/* Writes the 40 bytes of a question. */
+/* Writes the 44 bytes of a question. */
 static inline void hendovita_put_question(uint8_t *bytes,
                                           const struct hendovita_question *q)
 {
@@ -222,13 +227,14 @@ static inline void hendovita_put_question(uint8_t *bytes,
     hendovita_put_number(bytes + 28, q->day_low);
     hendovita_put_number(bytes + 32, q->day_high);
     hendovita_put_number(bytes + 36, q->nominal);
+    hendovita_put_number(bytes + 40, q->security_code);
 }
 
 /* ---- answers -------------------------------------------------------- */
 
 /*
- * An answer: an answer number, and the range that is shown. 1 to 5 and 14 show
- * 0 and 0. 0 and 6 to 10 show a range: to a question, the lowest and the
+ * An answer: an answer number, and the range that is shown. 1 to 5, 14 and 15
+ * show 0 and 0. 0 and 6 to 10 show a range: to a question, the lowest and the
  * highest ladder price that are permitted and pass the nine-fold rule, or 0 and
  * 0 where there is none; to a trade, the permitted range.
  *
@@ -257,16 +263,16 @@ struct hendovita_outcome {
 };
 
 /*
- * Judges up to 1,000 questions of 40 bytes, end to end, and returns one of two
+ * Judges up to 1,000 questions of 44 bytes, end to end, and returns one of two
  * numbers.
  *
  * 0 (HENDOVITA_ACCEPTED): every question is judged, and count is
- * questions_len / 40. The 12 bytes of the answer to question k, from 0, stand
+ * questions_len / 44. The 12 bytes of the answer to question k, from 0, stand
  * in bytes 12k to 12k+11 of answers, and are what hendovita_judge_question
- * returns for it: each has its own number, 0 or 2 to 10. The bytes after the
- * last answer keep their content. An empty batch is judged, with count 0.
+ * returns for it: each has its own number, 0, 2 to 10 or 15. The bytes after
+ * the last answer keep their content. An empty batch is judged, with count 0.
  *
- * 1 (HENDOVITA_BAD_LENGTH): questions_len is no multiple of 40 or over 40,000,
+ * 1 (HENDOVITA_BAD_LENGTH): questions_len is no multiple of 44 or over 44,000,
  * or answers_len is under 12 bytes a question. Nothing is judged: count is 0,
  * and no byte of answers is changed.
  */
@@ -294,14 +300,14 @@ struct hendovita_outcome hendovita_judge_batch_on(uint32_t table,
 /*
  * The answer to one question.
  *
- * 1 (HENDOVITA_BAD_LENGTH) with 0 and 0: len is not 40. With len 40, 0 and 2
- * to 10: 2 to 5 with 0 and 0, the others with the range.
+ * 1 (HENDOVITA_BAD_LENGTH) with 0 and 0: len is not 44. With len 44, 0, 2 to 10
+ * and 15: 2 to 5 and 15 with 0 and 0, the others with the range.
  */
 HENDOVITA_CHECK_RESULT
 struct hendovita_answer hendovita_judge_question(const uint8_t *question,
                                                  size_t len);
 
-/* The same on the table that a number names. With len 40, and a number that
+/* The same on the table that a number names. With len 44, and a number that
  * names none: 14 (HENDOVITA_UNKNOWN_TABLE) with 0 and 0. */
 HENDOVITA_CHECK_RESULT
 struct hendovita_answer hendovita_judge_question_on(uint32_t table,
@@ -326,14 +332,14 @@ struct hendovita_prepared {
 /*
  * The first part. The order price, bytes 4 to 7, is not looked at.
  *
- * 1 (HENDOVITA_BAD_LENGTH): question_len is not 40. With 40 bytes, 0 with the
- * range, or 2 to 5.
+ * 1 (HENDOVITA_BAD_LENGTH): question_len is not 44. With 44 bytes, 0 with the
+ * range, or 2 to 5 or 15 with three zeros.
  */
 HENDOVITA_CHECK_RESULT
 struct hendovita_prepared hendovita_prepare(const uint8_t *question,
                                             size_t question_len);
 
-/* The same on the table that a number names. With 40 bytes, and a number that
+/* The same on the table that a number names. With 44 bytes, and a number that
  * names none: 14 (HENDOVITA_UNKNOWN_TABLE). */
 HENDOVITA_CHECK_RESULT
 struct hendovita_prepared hendovita_prepare_on(uint32_t table,
@@ -473,24 +479,27 @@ struct hendovita_entered hendovita_enter_event(struct hendovita_day day,
                                                uint32_t kind, uint32_t price);
 
 /*
- * Writes the 40 bytes of a question: side, order type, order price and
- * nominal price as given, byte 3 zero, the references and the queue code from
- * the day. The code is 1 (opening) where the day has no last bid and no last
- * ask; else 2, 3, 4 or 5 by which of current bid and current ask there are.
+ * Writes the 44 bytes of a question: side, order type, order price, nominal
+ * price and security code as given, byte 3 zero, the references and the queue
+ * code from the day. The queue code is 1 (opening) where the day has no last
+ * bid and no last ask; else 2, 3, 4 or 5 by which of current bid and current
+ * ask there are.
  *
- * 0: all 40 bytes are written. 1 (HENDOVITA_BAD_LENGTH): question_len is not
- * 40, and no byte is changed.
+ * 0: all 44 bytes are written. 1 (HENDOVITA_BAD_LENGTH): question_len is not
+ * 44, and no byte is changed.
  *
- * Whatever side, order type, price and nominal are given: judged on the table
- * of Phase 1, a question from a day that hendovita_open_day and then
- * hendovita_enter_event have returned never gets 4, and gets 3 only where the
- * nominal given is neither 0 nor a price from 0.010 to 9,995.000.
+ * Whatever side, order type, price, nominal and security code are given: judged
+ * on the table of Phase 1, a question from a day that hendovita_open_day and
+ * then hendovita_enter_event have returned never gets 1 or 4. It gets 2 only
+ * where the side or the order type given is unknown, 15 only where the security
+ * code given is not 1 to 99999, and 3 only where the nominal given is neither 0
+ * nor a price from 0.010 to 9,995.000.
  */
 HENDOVITA_CHECK_RESULT
 uint32_t hendovita_fill_question(struct hendovita_day day, uint8_t side,
                                  uint8_t order_type, uint32_t price,
-                                 uint32_t nominal, uint8_t *question,
-                                 size_t question_len);
+                                 uint32_t nominal, uint32_t security_code,
+                                 uint8_t *question, size_t question_len);
 
 /* ---- the ladder and the limits -------------------------------------- */
 

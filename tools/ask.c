@@ -125,39 +125,71 @@ static bool read_number(struct text text, uint32_t *number)
     return true;
 }
 
-/* Four numbers, a blank between each two. */
-static bool read_answer(struct text line, uint32_t *question,
-                        struct hendovita_answer *answer)
+/* A line on a question: which one it is, from 1, and what it is answered. */
+struct judged {
+    uint32_t question;
+    struct hendovita_answer answer;
+    uint32_t security_code;
+};
+
+/* Five numbers, a blank between each two. */
+static bool read_judged(struct text line, struct judged *judged)
 {
-    struct text part[4];
-    for (int i = 0; i < 4; i++)
-        if (text_split(line, ' ', &part[i], &line) != (i < 3))
+    struct text part[5];
+    for (int i = 0; i < 5; i++)
+        if (text_split(line, ' ', &part[i], &line) != (i < 4))
             return false;
-    return read_number(part[0], question)
-        && read_number(part[1], &answer->number)
-        && read_number(part[2], &answer->lowest)
-        && read_number(part[3], &answer->highest);
+    return read_number(part[0], &judged->question)
+        && read_number(part[1], &judged->answer.number)
+        && read_number(part[2], &judged->answer.lowest)
+        && read_number(part[3], &judged->answer.highest)
+        && read_number(part[4], &judged->security_code);
 }
 
 static bool has_range(uint32_t number)
 {
-    return number == HENDOVITA_ACCEPTED || number >= HENDOVITA_OUTSIDE_LADDER;
+    return number == HENDOVITA_ACCEPTED
+        || (number >= HENDOVITA_OUTSIDE_LADDER
+            && number <= HENDOVITA_NINE_FOLD);
 }
 
-/* Whether an answer is one that there is: a known number, and a range that
- * may go with it. */
-static bool is_possible(struct hendovita_answer answer)
+static bool is_known(uint32_t number)
 {
-    if (answer.number > HENDOVITA_NINE_FOLD)
-        return false;
+    return number <= HENDOVITA_NINE_FOLD
+        || number == HENDOVITA_BAD_SECURITY_CODE;
+}
+
+/* Whether a number may go with a security code. Number 2 may go with any, since
+ * its check comes before that of the code. */
+static bool fits_code(uint32_t number, uint32_t security_code)
+{
+    bool bad = security_code < 1
+        || security_code > HENDOVITA_LAST_SECURITY_CODE;
+    return number == HENDOVITA_UNKNOWN_CODE
+        || (number == HENDOVITA_BAD_SECURITY_CODE) == bad;
+}
+
+/* Whether a range may go with a number. */
+static bool fits_range(struct hendovita_answer answer)
+{
     if (answer.lowest == 0 || !has_range(answer.number))
         return answer.lowest == 0 && answer.highest == 0;
     return answer.lowest <= answer.highest;
 }
 
-static void print_answer(uint32_t question, struct hendovita_answer answer)
+/* Whether a line is one that there is. */
+static bool is_possible(struct judged judged)
 {
-    printf("%u  %s (%u)", (unsigned)question, hendovita_text(answer.number),
+    return judged.question > 0 && is_known(judged.answer.number)
+        && fits_code(judged.answer.number, judged.security_code)
+        && fits_range(judged.answer);
+}
+
+static void print_judged(struct judged judged)
+{
+    struct hendovita_answer answer = judged.answer;
+    printf("%u  security %u  %s (%u)", (unsigned)judged.question,
+           (unsigned)judged.security_code, hendovita_text(answer.number),
            (unsigned)answer.number);
     if (answer.lowest != 0) {
         printf(": ");
@@ -189,18 +221,17 @@ static bool is_unknown_table(struct text line)
 
 static bool show_line(const struct text_lines *lines)
 {
-    struct hendovita_answer answer;
-    uint32_t number;
+    struct judged judged;
+    uint32_t left;
     if (!text_fits(lines))
         return false;
     struct text line = text_line(lines);
     if (is_unknown_table(line))
         printf("%s (14)\n", hendovita_text(HENDOVITA_UNKNOWN_TABLE));
-    else if (read_answer(line, &number, &answer) && number > 0
-        && is_possible(answer))
-        print_answer(number, answer);
-    else if (read_left(line, &number))
-        print_left(stdout, number);
+    else if (read_judged(line, &judged) && is_possible(judged))
+        print_judged(judged);
+    else if (read_left(line, &left))
+        print_left(stdout, left);
     else
         return text_wrong(lines, "", line, " is no line of pricecheck");
     return true;
@@ -253,11 +284,11 @@ int main(int argc, char **argv)
         good = read_records();
     } else {
         fputs("usage:\n"
-              "  ask write [FILE]  readable questions into 40-byte records\n"
+              "  ask write [FILE]  readable questions into 44-byte records\n"
               "  ask feed [FILE]   a day, line by line, into the records of "
               "its orders\n"
               "  ask show          lines of pricecheck into words\n"
-              "  ask read          40-byte records into readable questions\n",
+              "  ask read          44-byte records into readable questions\n",
               stderr);
         return 2;
     }

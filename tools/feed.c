@@ -106,8 +106,8 @@ static enum fields_found fill(const struct text_lines *lines,
     if (found != FIELDS_QUESTION)
         return found;
     uint32_t number = hendovita_fill_question(
-        *day, order.side, order.type, order.price, order.nominal, record,
-        HENDOVITA_QUESTION_BYTES);
+        *day, order.side, order.type, order.price, order.nominal,
+        order.security_code, record, HENDOVITA_QUESTION_BYTES);
     return is_accepted(lines, text_line(lines), number) ? FIELDS_QUESTION
                                                         : FIELDS_WRONG;
 }

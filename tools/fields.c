@@ -7,13 +7,26 @@
 #include <string.h>
 
 /* The fields in the order of the record: four codes of a byte each, then nine
- * prices. */
-enum { SIDE, TYPE, QUEUE, BYTE3, PRICE, NOMINAL = 12, FIELDS };
+ * prices, then the security code. */
+enum {
+    SIDE, TYPE, QUEUE, BYTE3, PRICE, NOMINAL = 12, SECURITY_CODE, FIELDS
+};
 
 static const char *const names[FIELDS] = {
     "side", "type", "queue", "byte3", "price", "bid", "ask", "last-bid",
-    "last-ask", "close", "day-low", "day-high", "nominal",
+    "last-ask", "close", "day-low", "day-high", "nominal", "code",
 };
+
+/* The kinds of field: a byte, a price, or else a plain number. */
+static bool is_byte(int field)
+{
+    return field < PRICE;
+}
+
+static bool is_price(int field)
+{
+    return field >= PRICE && field <= NOMINAL;
+}
 
 enum { NAMED = 6 }; /* codes that may have a name: 0 to 5 */
 
@@ -43,14 +56,14 @@ static const struct form question_form = {
 
 static const struct form order_form = {
     false, "no field of an order is called ",
-    ": an order has side, type, price and nominal; close, bid, ask, empty and "
-    "trade stand alone",
+    ": an order has side, type, price, nominal and code; close, bid, ask, "
+    "empty and trade stand alone",
     " is not given: side, type and price are required"};
 
 static bool has_field(const struct form *form, int field)
 {
     return form->is_whole || field == SIDE || field == TYPE || field == PRICE
-        || field == NOMINAL;
+        || field == NOMINAL || field == SECURITY_CODE;
 }
 
 static bool is_required(const struct form *form, int field)
@@ -58,10 +71,18 @@ static bool is_required(const struct form *form, int field)
     return has_field(form, field) && field <= PRICE && field != BYTE3;
 }
 
-/* Where the four bytes of a price begin. */
+/* Where the four bytes of a field that has four begin. */
 static int place_of(int field)
 {
     return 4 + 4 * (field - PRICE);
+}
+
+/* A record of which no field is given: every one is 0, but the security code is
+ * 1. */
+static void clear(uint8_t *record)
+{
+    memset(record, 0, HENDOVITA_QUESTION_BYTES);
+    hendovita_put_number(record + place_of(SECURITY_CODE), 1);
 }
 
 /* ---- reading: each answers what is wrong, or NULL ------------------- */
@@ -110,11 +131,22 @@ const char *fields_read_price(struct text value, uint32_t *price)
     return NULL;
 }
 
-static const char *read_price(int field, struct text value, uint8_t *record)
+static const char *read_security_code(struct text value, uint32_t *number)
 {
-    uint32_t price = 0;
-    const char *wrong = fields_read_price(value, &price);
-    hendovita_put_number(record + place_of(field), price);
+    if (!text_is_digits(value) || text_number(value, UINT32_MAX) > UINT32_MAX)
+        return ": a security code is a number from 0 to 4294967295";
+    *number = (uint32_t)text_number(value, UINT32_MAX);
+    return NULL;
+}
+
+static const char *read_value(int field, struct text value, uint8_t *record)
+{
+    uint32_t number = 0;
+    if (is_byte(field))
+        return read_code(field, value, record);
+    const char *wrong = is_price(field) ? fields_read_price(value, &number)
+                                        : read_security_code(value, &number);
+    hendovita_put_number(record + place_of(field), number);
     return wrong;
 }
 
@@ -153,8 +185,7 @@ static bool read_word(const struct text_lines *lines, const struct form *form,
     if (!fields_has_value(lines, word, value))
         return false;
 
-    const char *wrong = field < PRICE ? read_code(field, value, record)
-                                      : read_price(field, value, record);
+    const char *wrong = read_value(field, value, record);
     return wrong == NULL || text_wrong(lines, "", word, wrong);
 }
 
@@ -178,7 +209,7 @@ static enum fields_found read_line(const struct text_lines *lines,
     if (!text_fits(lines))
         return FIELDS_WRONG;
     rest = text_before_comment(lines);
-    memset(record, 0, HENDOVITA_QUESTION_BYTES);
+    clear(record);
     while (text_word(&rest, &word)) {
         any = true;
         if (!read_word(lines, form, word, given, record))
@@ -204,6 +235,8 @@ enum fields_found fields_read_order(const struct text_lines *lines,
     order->type = record[TYPE];
     order->price = hendovita_get_number(record + place_of(PRICE));
     order->nominal = hendovita_get_number(record + place_of(NOMINAL));
+    order->security_code =
+        hendovita_get_number(record + place_of(SECURITY_CODE));
     return found;
 }
 
@@ -214,11 +247,19 @@ void fields_print_price(uint32_t mils)
     printf("%u.%03u", (unsigned)(mils / 1000), (unsigned)(mils % 1000));
 }
 
+/* A 0 is left out where a question may do without the field. The security code
+ * is always there: left out, it would be read as 1. */
+static bool is_printed(int field, uint32_t value)
+{
+    return value != 0 || field == SECURITY_CODE
+        || is_required(&question_form, field);
+}
+
 static void print_value(int field, uint32_t value)
 {
-    if (field >= PRICE)
+    if (is_price(field))
         fields_print_price(value);
-    else if (value < NAMED && codes[field][value] != NULL)
+    else if (is_byte(field) && value < NAMED && codes[field][value] != NULL)
         printf("%s", codes[field][value]);
     else
         printf("%u", (unsigned)value);
@@ -227,10 +268,10 @@ static void print_value(int field, uint32_t value)
 void fields_print(const uint8_t record[HENDOVITA_QUESTION_BYTES])
 {
     for (int field = 0; field < FIELDS; field++) {
-        uint32_t value = field < PRICE
+        uint32_t value = is_byte(field)
             ? record[field]
             : hendovita_get_number(record + place_of(field));
-        if (value == 0 && !is_required(&question_form, field))
+        if (!is_printed(field, value))
             continue;
         printf("%s%s=", field == 0 ? "" : " ", names[field]);
         print_value(field, value);

@@ -11,7 +11,7 @@
 /* What a line holds: no question, a question, or something wrong. */
 enum fields_found { FIELDS_NONE, FIELDS_QUESTION, FIELDS_WRONG };
 
-/* Reads the question of a line into its 40 bytes. Where the line is wrong, a
+/* Reads the question of a line into its 44 bytes. Where the line is wrong, a
  * message says what the first fault is. */
 enum fields_found fields_read(const struct text_lines *lines,
                               uint8_t record[HENDOVITA_QUESTION_BYTES]);
@@ -19,7 +19,7 @@ enum fields_found fields_read(const struct text_lines *lines,
 /* What an order has of its own; a day gives the rest of its question. */
 struct fields_order {
     uint8_t side, type;
-    uint32_t price, nominal;
+    uint32_t price, nominal, security_code;
 };
 
 /* Reads the order of a line in the same way: it has no other fields. */

@@ -6,7 +6,7 @@
  * that prices fall at band edges, at the ends of the ladder, at the ends of
  * the permitted and shown ranges and at the edges of the nine-fold rule.
  * Previous closes and nominals fall on the ladder, between its prices, and
- * past its ends.
+ * past its ends. Most security codes are good, whatever else is wrong.
  */
 #ifndef DRAW_H
 #define DRAW_H
@@ -14,13 +14,16 @@
 #include <stdbool.h>
 #include <stdint.h>
 
+#include "plain.h"
+
 struct draw {
     uint64_t state;
 };
 
 /* plain_begin must have been called before questions or trades are drawn. */
 void draw_begin(struct draw *draw, uint64_t seed);
-void draw_question(struct draw *draw, uint8_t question[40]);
+void draw_question(struct draw *draw,
+                   uint8_t question[PLAIN_QUESTION_BYTES]);
 
 /* Trade price, previous close, lowest bid, lowest ask, highest bid, highest
  * ask: the order in which plain_trade takes them. */

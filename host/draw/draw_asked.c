@@ -3,6 +3,7 @@
  */
 #include "draw_event.h"
 #include "draw_order.h"
+#include "draw_security.h"
 
 static uint32_t nominal(struct draw *draw, struct draw_span span)
 {
@@ -36,10 +37,11 @@ struct plain_asked draw_asked(struct draw *draw, struct draw_span span,
                               const struct plain_kept *kept)
 {
     struct plain_asked asked = {0};
-    uint8_t question[40];
+    uint8_t question[PLAIN_QUESTION_BYTES];
     asked.side = (uint8_t)(1 + draw_below(draw, 2));
     asked.type = (uint8_t)(1 + draw_below(draw, 3));
     asked.nominal = nominal(draw, span);
+    asked.security_code = draw_good_security(draw);
     if (draw_one_in(draw, 12))
         put_code_fault(draw, &asked);
     plain_fill_any(kept, asked, question);
@@ -48,5 +50,7 @@ struct plain_asked draw_asked(struct draw *draw, struct draw_span span,
         plain_fill_any(kept, asked, question);
     }
     asked.price = draw_order_price(draw, question);
+    if (draw_one_in(draw, 16))
+        asked.security_code = draw_bad_security(draw);
     return asked;
 }

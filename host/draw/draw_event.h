@@ -23,8 +23,8 @@ struct plain_event draw_event(struct draw *draw, struct draw_span span,
 /* A day of any eleven numbers. */
 struct plain_kept draw_any_day(struct draw *draw, struct draw_span span);
 
-/* draw_asked.c: an order, by the question that it gives. Codes are unknown and
- * nominals bad now and then. */
+/* draw_asked.c: an order, by the question that it gives. Codes are unknown,
+ * and nominals and security codes bad, now and then. */
 struct plain_asked draw_asked(struct draw *draw, struct draw_span span,
                               const struct plain_kept *kept);
 

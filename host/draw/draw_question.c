@@ -1,15 +1,17 @@
 /*
  * The draw of a question: codes, references that fit them, now and then a
- * fault, and last an order price chosen by the range that results.
+ * fault, and an order price chosen by the range that results. Last, the
+ * security code may become a bad one.
  */
 #include "draw_order.h"
 #include "draw_price.h"
+#include "draw_security.h"
 #include "plain.h"
 
 enum { SIDE, TYPE, QUEUE, ZERO, CODES };
 enum {
     PRICE, BID, ASK, LAST_BID, LAST_ASK, CLOSE, DAY_LOW, DAY_HIGH, NOMINAL,
-    FIELDS
+    SECURITY, FIELDS, REFERENCES = NOMINAL - BID + 1
 };
 enum { OPENING = 1, BOTH, BUY_ONLY, SELL_ONLY };
 
@@ -19,7 +21,8 @@ struct form {
     uint32_t field[FIELDS];
 };
 
-static void write_form(const struct form *form, uint8_t question[40])
+static void write_form(const struct form *form,
+                       uint8_t question[PLAIN_QUESTION_BYTES])
 {
     for (uint32_t i = 0; i < CODES; i++)
         question[i] = form->code[i];
@@ -28,7 +31,8 @@ static void write_form(const struct form *form, uint8_t question[40])
 }
 
 /* A field of a question that is written as bytes. */
-static uint32_t field_of(const uint8_t question[40], uint32_t which)
+static uint32_t field_of(const uint8_t question[PLAIN_QUESTION_BYTES],
+                         uint32_t which)
 {
     const uint8_t *byte = question + CODES + 4 * which;
     return (uint32_t)byte[0] | (uint32_t)byte[1] << 8
@@ -120,7 +124,8 @@ static uint32_t nine_fold_away(struct draw *draw, uint32_t price)
     return edge - 1 + draw_below(draw, 3);
 }
 
-uint32_t draw_far_nominal(struct draw *draw, const uint8_t question[40])
+uint32_t draw_far_nominal(struct draw *draw,
+                          const uint8_t question[PLAIN_QUESTION_BYTES])
 {
     struct plain_prepared range = plain_prepare(question);
     if (range.number != 0)
@@ -135,7 +140,7 @@ uint32_t draw_far_nominal(struct draw *draw, const uint8_t question[40])
 
 static void set_far_nominal(struct draw *draw, struct form *form)
 {
-    uint8_t question[40];
+    uint8_t question[PLAIN_QUESTION_BYTES];
     write_form(form, question);
     form->field[NOMINAL] = draw_far_nominal(draw, question);
 }
@@ -153,7 +158,7 @@ static void put_code_fault(struct draw *draw, struct form *form)
 /* Each reference missing or present, whatever the queue code asks for. */
 static void put_any_references(struct draw *draw, struct form *form)
 {
-    for (uint32_t i = BID; i < FIELDS; i++) {
+    for (uint32_t i = BID; i <= NOMINAL; i++) {
         if (draw_one_in(draw, 2))
             form->field[i] = 0;
         else if (form->field[i] == 0)
@@ -165,7 +170,7 @@ static void put_any_references(struct draw *draw, struct form *form)
 static void put_reference_fault(struct draw *draw, struct form *form)
 {
     uint32_t *field = form->field;
-    uint32_t *any = &field[BID + draw_below(draw, FIELDS - BID)];
+    uint32_t *any = &field[BID + draw_below(draw, REFERENCES)];
     uint32_t *loose = &field[draw_one_in(draw, 2) ? CLOSE : NOMINAL];
     switch (draw_below(draw, 10)) {
     case 0:
@@ -209,19 +214,21 @@ static void put_fault(struct draw *draw, struct form *form)
 
 /* A price at an end of either range, at an edge of the nine-fold rule, or
  * at a reference, then shifted a little or not at all. */
-static uint32_t price_at_edge(struct draw *draw, const uint8_t question[40],
+static uint32_t price_at_edge(struct draw *draw,
+                              const uint8_t question[PLAIN_QUESTION_BYTES],
                               struct plain_prepared permitted,
                               struct plain_answer shown)
 {
     uint32_t edge[7] = {
         permitted.lowest, permitted.highest, shown.lowest, shown.highest,
         9 * permitted.nine_fold, permitted.nine_fold / 9,
-        field_of(question, BID + draw_below(draw, FIELDS - BID)),
+        field_of(question, BID + draw_below(draw, REFERENCES)),
     };
     return draw_shifted(draw, edge[draw_below(draw, 7)]);
 }
 
-uint32_t draw_order_price(struct draw *draw, const uint8_t question[40])
+uint32_t draw_order_price(struct draw *draw,
+                          const uint8_t question[PLAIN_QUESTION_BYTES])
 {
     struct plain_prepared permitted = plain_prepare(question);
     struct plain_answer shown = plain_question(question);
@@ -239,18 +246,20 @@ uint32_t draw_order_price(struct draw *draw, const uint8_t question[40])
 
 static void set_order_price(struct draw *draw, struct form *form)
 {
-    uint8_t question[40];
+    uint8_t question[PLAIN_QUESTION_BYTES];
     write_form(form, question);
     form->field[PRICE] = draw_order_price(draw, question);
 }
 
-static void draw_random_bytes(struct draw *draw, uint8_t question[40])
+static void draw_random_bytes(struct draw *draw,
+                              uint8_t question[PLAIN_QUESTION_BYTES])
 {
-    for (uint32_t i = 0; i < 40; i++)
+    for (uint32_t i = 0; i < PLAIN_QUESTION_BYTES; i++)
         question[i] = (uint8_t)draw_number(draw);
 }
 
-void draw_question(struct draw *draw, uint8_t question[40])
+void draw_question(struct draw *draw,
+                   uint8_t question[PLAIN_QUESTION_BYTES])
 {
     if (draw_one_in(draw, 100)) {
         draw_random_bytes(draw, question);
@@ -259,6 +268,7 @@ void draw_question(struct draw *draw, uint8_t question[40])
     struct form form;
     set_codes(draw, &form);
     set_references(draw, &form);
+    form.field[SECURITY] = draw_good_security(draw);
     if (draw_one_in(draw, 3))
         set_far_nominal(draw, &form);
     if (draw_one_in(draw, 4))
@@ -266,5 +276,7 @@ void draw_question(struct draw *draw, uint8_t question[40])
     if (draw_one_in(draw, 12))
         put_fault(draw, &form);
     set_order_price(draw, &form);
+    if (draw_one_in(draw, 16))
+        form.field[SECURITY] = draw_bad_security(draw);
     write_form(&form, question);
 }

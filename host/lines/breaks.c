@@ -1,19 +1,21 @@
 /*
  * breaks PROGRAM FILE: runs a program whose input gives the bytes of the file
  * and then fails: a pipe that stays open and does not wait. The file is no
- * longer than a pipe holds.
+ * longer than the pipe, which is made larger than the pieces that a program
+ * reads.
  */
-#define _POSIX_C_SOURCE 200809L
+#define _GNU_SOURCE
 #include <fcntl.h>
 #include <stdio.h>
 #include <unistd.h>
 
 int main(int argc, char **argv)
 {
-    static char bytes[65536];
+    static char bytes[131072];
     int ends[2];
     if (argc != 3 || pipe(ends) != 0
-        || fcntl(ends[0], F_SETFL, O_NONBLOCK) != 0)
+        || fcntl(ends[0], F_SETFL, O_NONBLOCK) != 0
+        || fcntl(ends[1], F_SETPIPE_SZ, (int)sizeof bytes) < (int)sizeof bytes)
         return 2;
     FILE *file = fopen(argv[2], "r");
     if (file == NULL)

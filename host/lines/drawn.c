@@ -19,7 +19,7 @@ int main(int argc, char **argv)
     struct draw draw;
     draw_begin(&draw, strtoull(argv[2], NULL, 10));
     for (unsigned long n = strtoul(argv[1], NULL, 10); n > 0; n--) {
-        uint8_t question[40];
+        uint8_t question[PLAIN_QUESTION_BYTES];
         draw_question(&draw, question);
         fwrite(question, 1, sizeof question, stdout);
     }

@@ -9,7 +9,7 @@
 
 int main(void)
 {
-    static const size_t sizes[] = {1, 39, 40, 41, 7, 4096, 13, 1000, 65535, 3};
+    static const size_t sizes[] = {1, 43, 44, 45, 7, 4096, 13, 1000, 65535, 3};
     static char piece[65536];
     const struct timespec pause = {0, 100000};
     size_t bytes, turn = 0;

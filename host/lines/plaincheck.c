@@ -10,7 +10,7 @@
 
 int main(int argc, char **argv)
 {
-    uint8_t question[40];
+    uint8_t question[PLAIN_QUESTION_BYTES];
     size_t bytes;
     plain_begin();
     if (argc > 2
@@ -23,8 +23,8 @@ int main(int argc, char **argv)
          == sizeof question;
          number++) {
         struct plain_answer answer = plain_question(question);
-        printf("%lu %u %u %u\n", number, answer.number, answer.lowest,
-               answer.highest);
+        printf("%lu %u %u %u %u\n", number, answer.number, answer.lowest,
+               answer.highest, plain_security_code(question));
     }
     if (bytes > 0)
         printf("left %zu\n", bytes);

@@ -30,6 +30,8 @@ enum {
     PLAIN_FIRST = 10,       /* the lowest ladder price of each table */
     PLAIN_LAST = 9995000,   /* the highest ladder price of each table */
     PLAIN_MOST = 12690,     /* the most ladder prices that a table has */
+    PLAIN_QUESTION_BYTES = 44,
+    PLAIN_LAST_CODE = 99999, /* the security codes are 1 to this */
     PLAIN_EVENTS = 64       /* the most events that a day can hold */
 };
 
@@ -74,14 +76,18 @@ uint32_t plain_five_percent_upper(uint32_t reference);
 uint32_t plain_lower_limit(uint32_t reference);
 uint32_t plain_upper_limit(uint32_t reference);
 
-/* A question without its order price: 2 to 5 and three times 0 if it is
+/* The security code of a question as it stands there, good or bad. */
+uint32_t plain_security_code(const uint8_t question[PLAIN_QUESTION_BYTES]);
+
+/* A question without its order price: 2 to 5 or 15 and three times 0 if it is
  * refused, or else 0, the permitted range, not cut by the nine-fold rule, and
  * the price against which that rule is held, which may be missing. */
 struct plain_prepared {
     uint32_t number, lowest, highest, nine_fold;
 };
 
-struct plain_prepared plain_prepare(const uint8_t question[40]);
+struct plain_prepared
+plain_prepare(const uint8_t question[PLAIN_QUESTION_BYTES]);
 
 /* The answer to an order price, given a range and a price for the nine-fold
  * rule. They may be any numbers, and each is taken as it is. */
@@ -89,7 +95,8 @@ struct plain_answer plain_judge_prepared(uint32_t lowest, uint32_t highest,
                                          uint32_t nine_fold, uint32_t price);
 
 /* The answer to a question: it is prepared, then its order price is judged. */
-struct plain_answer plain_question(const uint8_t question[40]);
+struct plain_answer
+plain_question(const uint8_t question[PLAIN_QUESTION_BYTES]);
 
 /* The answer to an off-System trade. */
 struct plain_answer plain_trade(uint32_t price, uint32_t previous_close,
@@ -122,6 +129,7 @@ struct plain_kept {
 struct plain_asked {
     uint8_t side, type;
     uint32_t price, nominal;
+    uint32_t security_code;
 };
 
 /* A fresh day, and its next event: 0, or the number that turns it away. */
@@ -133,12 +141,12 @@ uint32_t plain_enter_event(struct plain_day *day, struct plain_event event);
 struct plain_kept plain_kept(const struct plain_day *day);
 uint8_t plain_queue_code(const struct plain_day *day);
 void plain_fill(const struct plain_day *day, struct plain_asked asked,
-                uint8_t question[40]);
+                uint8_t question[PLAIN_QUESTION_BYTES]);
 
 /* The same for a day of any eleven numbers, which has no list: it is taken by
  * its numbers. */
 uint32_t plain_enter_any(struct plain_kept *kept, struct plain_event event);
 void plain_fill_any(const struct plain_kept *kept, struct plain_asked asked,
-                    uint8_t question[40]);
+                    uint8_t question[PLAIN_QUESTION_BYTES]);
 
 #endif

@@ -47,7 +47,7 @@ uint32_t plain_enter_any(struct plain_kept *kept, struct plain_event event)
 }
 
 void plain_fill_any(const struct plain_kept *kept, struct plain_asked asked,
-                    uint8_t question[40])
+                    uint8_t question[PLAIN_QUESTION_BYTES])
 {
     bool opening = plain_missing(kept->last_bid)
                 && plain_missing(kept->last_ask);

@@ -117,7 +117,7 @@ uint8_t plain_queue_code(const struct plain_day *day)
 }
 
 void plain_fill(const struct plain_day *day, struct plain_asked asked,
-                uint8_t question[40])
+                uint8_t question[PLAIN_QUESTION_BYTES])
 {
     struct plain_kept kept = plain_kept(day);
     plain_write(&kept, plain_queue_code(day), asked, question);

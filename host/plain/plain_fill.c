@@ -19,17 +19,18 @@ static void write_number(uint8_t *byte, uint32_t number)
 }
 
 void plain_write(const struct plain_kept *kept, uint8_t queue,
-                 struct plain_asked asked, uint8_t question[40])
+                 struct plain_asked asked,
+                 uint8_t question[PLAIN_QUESTION_BYTES])
 {
-    const uint32_t numbers[9] = {
+    const uint32_t numbers[10] = {
         asked.price, kept->current_bid, kept->current_ask, kept->last_bid,
         kept->last_ask, kept->previous_close, kept->day_low, kept->day_high,
-        asked.nominal,
+        asked.nominal, asked.security_code,
     };
     question[0] = asked.side;
     question[1] = asked.type;
     question[2] = queue;
     question[3] = 0;
-    for (uint32_t i = 0; i < 9; i++)
+    for (uint32_t i = 0; i < 10; i++)
         write_number(question + 4 + 4 * i, numbers[i]);
 }

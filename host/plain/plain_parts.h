@@ -29,6 +29,7 @@ struct plain_order {
     uint32_t price;
     uint32_t bid, ask, last_bid, last_ask;
     uint32_t previous_close, day_low, day_high, nominal;
+    uint32_t security_code;
 };
 
 struct plain_range {
@@ -76,6 +77,7 @@ uint32_t plain_turned_away(struct plain_event event, uint32_t current_bid,
 /* plain_fill.c */
 uint8_t plain_queues(uint32_t current_bid, uint32_t current_ask);
 void plain_write(const struct plain_kept *kept, uint8_t queue,
-                 struct plain_asked asked, uint8_t question[40]);
+                 struct plain_asked asked,
+                 uint8_t question[PLAIN_QUESTION_BYTES]);
 
 #endif

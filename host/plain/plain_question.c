@@ -1,7 +1,7 @@
 /*
  * The judging of a question: its bytes are read, the checks run in number
- * order, and the first that applies is the answer. Up to 5 they do not look at
- * the order price; plain_prepared.c has the rest.
+ * order, with 15 after 2, and the first that applies is the answer. Up to 5
+ * they do not look at the order price; plain_prepared.c has the rest.
  */
 #include "plain_parts.h"
 
@@ -12,7 +12,8 @@ static uint32_t number_at(const uint8_t *byte)
          | (uint32_t)byte[2] << 16 | (uint32_t)byte[3] << 24;
 }
 
-static struct plain_order read_order(const uint8_t question[40])
+static struct plain_order
+read_order(const uint8_t question[PLAIN_QUESTION_BYTES])
 {
     return (struct plain_order){
         .side = question[0],
@@ -28,7 +29,13 @@ static struct plain_order read_order(const uint8_t question[40])
         .day_low = number_at(question + 28),
         .day_high = number_at(question + 32),
         .nominal = number_at(question + 36),
+        .security_code = number_at(question + 40),
     };
+}
+
+uint32_t plain_security_code(const uint8_t question[PLAIN_QUESTION_BYTES])
+{
+    return read_order(question).security_code;
 }
 
 /* Check 2. */
@@ -38,6 +45,12 @@ static bool unknown_code(const struct plain_order *order)
         || order->type < PLAIN_LIMIT || order->type > PLAIN_SPECIAL
         || order->queue < PLAIN_OPENING || order->queue > PLAIN_NEITHER
         || order->zero != 0;
+}
+
+/* Check 15. */
+static bool bad_security_code(const struct plain_order *order)
+{
+    return order->security_code < 1 || order->security_code > PLAIN_LAST_CODE;
 }
 
 /* Check 3. All eight references are looked at, used or not. The previous close
@@ -69,11 +82,13 @@ static bool references_disagree(const struct plain_order *order)
     return plain_bad_pair(order->day_low, order->day_high);
 }
 
-/* Checks 2 to 5; 0 if none applies. */
+/* Checks 2, 15 and 3 to 5; 0 if none applies. */
 static uint32_t refusal(const struct plain_order *order)
 {
     if (unknown_code(order))
         return 2;
+    if (bad_security_code(order))
+        return 15;
     if (bad_reference(order))
         return 3;
     if (references_disagree(order))
@@ -90,7 +105,8 @@ static uint32_t nine_fold_against(const struct plain_order *order)
                                          : order->nominal;
 }
 
-struct plain_prepared plain_prepare(const uint8_t question[40])
+struct plain_prepared
+plain_prepare(const uint8_t question[PLAIN_QUESTION_BYTES])
 {
     struct plain_order order = read_order(question);
     uint32_t refused = refusal(&order);
@@ -101,7 +117,8 @@ struct plain_prepared plain_prepare(const uint8_t question[40])
                                    nine_fold_against(&order)};
 }
 
-struct plain_answer plain_question(const uint8_t question[40])
+struct plain_answer
+plain_question(const uint8_t question[PLAIN_QUESTION_BYTES])
 {
     struct plain_prepared prepared = plain_prepare(question);
     if (prepared.number != 0)

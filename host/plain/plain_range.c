@@ -1,8 +1,8 @@
 /*
  * The permitted range of an order, chosen by side, order type and queue code.
  *
- * The order has passed the checks 2 to 5: its codes are known, its references
- * fit the queue code, and a special order has an opposite queue.
+ * The order has passed the checks 2, 15 and 3 to 5: its codes are known, its
+ * references fit the queue code, and a special order has an opposite queue.
  */
 #include "plain_parts.h"
 

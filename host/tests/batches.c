@@ -12,7 +12,7 @@
 
 enum { DRAWN = 1001, SPARE = 64 };
 
-static uint8_t questions[DRAWN * 40 + SPARE];
+static uint8_t questions[DRAWN * PLAIN_QUESTION_BYTES + SPARE];
 static uint8_t answers[DRAWN * 12 + SPARE];
 
 /* What byte i of the buffer holds before a call. */
@@ -31,9 +31,9 @@ static void set_pattern(uint8_t *buffer, size_t len)
 static void same_buffer(size_t n)
 {
     for (size_t k = 0; k < n; k++)
-        report_question("in a batch", questions + 40 * k,
+        report_question("in a batch", questions + PLAIN_QUESTION_BYTES * k,
                         hendovita_get_answer(answers + 12 * k),
-                        plain_question(questions + 40 * k));
+                        plain_question(questions + PLAIN_QUESTION_BYTES * k));
     for (size_t i = 12 * n; i < sizeof answers; i++)
         if (answers[i] != pattern(i))
             report_say("  byte %zu is %u, due %u", i, answers[i], pattern(i));
@@ -42,9 +42,10 @@ static void same_buffer(size_t n)
 /* One call: its outcome, and every byte of the buffer and after it. */
 static void judge(size_t asked, size_t room)
 {
-    bool judged = asked % 40 == 0 && asked / 40 <= 1000
-               && room >= asked / 40 * 12;
-    size_t n = judged ? asked / 40 : 0;
+    size_t whole = asked / PLAIN_QUESTION_BYTES;
+    bool judged = asked % PLAIN_QUESTION_BYTES == 0 && whole <= 1000
+               && room >= whole * 12;
+    size_t n = judged ? whole : 0;
     set_pattern(answers, sizeof answers);
     struct hendovita_outcome outcome =
         on_batch(questions, asked, answers, room);
@@ -59,7 +60,7 @@ static void draw_questions(uint64_t seed)
     struct draw draw;
     draw_begin(&draw, seed);
     for (size_t k = 0; k < DRAWN; k++)
-        draw_question(&draw, questions + 40 * k);
+        draw_question(&draw, questions + PLAIN_QUESTION_BYTES * k);
 }
 
 static void test_sizes(void)
@@ -69,23 +70,49 @@ static void test_sizes(void)
     for (size_t i = 0; i < sizeof sizes / sizeof *sizes; i++) {
         size_t n = sizes[i];
         for (size_t spare = 0; spare <= 13; spare++)
-            judge(40 * n, 12 * n + spare);
+            judge(PLAIN_QUESTION_BYTES * n, 12 * n + spare);
         for (size_t less = 1; less <= 13 && less <= 12 * n; less++)
-            judge(40 * n, 12 * n - less);
-        judge(40 * n, 0);
-        judge(40 * n, sizeof answers);
+            judge(PLAIN_QUESTION_BYTES * n, 12 * n - less);
+        judge(PLAIN_QUESTION_BYTES * n, 0);
+        judge(PLAIN_QUESTION_BYTES * n, sizeof answers);
+    }
+}
+
+/* Lengths, and how many questions they are; NONE where they are no batch. */
+enum { NONE = -1 };
+
+static const struct {
+    size_t asked;
+    int questions;
+} lengths[] = {
+    {0, 0}, {1, NONE}, {12, NONE}, {40, NONE}, {43, NONE}, {44, 1},
+    {45, NONE}, {80, NONE}, {88, 2}, {120, NONE}, {132, 3}, {400, NONE},
+    {440, 10}, {880, 20}, {1000, NONE}, {1100, 25}, {4000, NONE},
+    {4400, 100}, {39996, 909}, {40000, NONE}, {40040, 910}, {43956, 999},
+    {43960, NONE}, {43999, NONE}, {44000, 1000}, {44001, NONE},
+    {44040, NONE}, {44044, NONE},
+};
+
+static void test_lengths_by_hand(void)
+{
+    on_begin("how many questions a length is, by hand");
+    for (size_t i = 0; i < sizeof lengths / sizeof *lengths; i++) {
+        bool judged = lengths[i].questions != NONE;
+        struct hendovita_outcome outcome =
+            on_batch(questions, lengths[i].asked, answers, sizeof answers);
+        report_same("number", outcome.number, judged ? 0 : 1);
+        report_same("count", outcome.count,
+                    judged ? (uint64_t)lengths[i].questions : 0);
     }
 }
 
 static void test_lengths(void)
 {
-    static const size_t around[] = {40, 80, 1000, 39960, 40000, 40040};
-    on_begin("lengths around multiples of 40");
-    for (size_t asked = 0; asked < 40; asked++)
+    on_begin("every length to 1,100 and from 39,900 on, every byte");
+    for (size_t asked = 0; asked <= 1100; asked++)
         judge(asked, sizeof answers);
-    for (size_t i = 0; i < sizeof around / sizeof *around; i++)
-        for (size_t more = 0; more <= 6; more++)
-            judge(around[i] - 3 + more, sizeof answers);
+    for (size_t asked = 39900; asked <= sizeof questions; asked++)
+        judge(asked, sizeof answers);
 }
 
 enum { FEW = 40 };
@@ -94,7 +121,7 @@ static void judge_few(uint8_t buffer[12 * FEW])
 {
     set_pattern(buffer, 12 * FEW);
     struct hendovita_outcome outcome =
-        on_batch(questions, 40 * FEW, buffer, 12 * FEW);
+        on_batch(questions, PLAIN_QUESTION_BYTES * FEW, buffer, 12 * FEW);
     report_same("number", outcome.number, 0);
     report_same("count", outcome.count, FEW);
 }
@@ -104,23 +131,23 @@ static void change_bit(size_t j, size_t byte, uint8_t bit)
 {
     uint8_t before[12 * FEW], after[12 * FEW];
     judge_few(before);
-    questions[40 * j + byte] ^= bit;
+    questions[PLAIN_QUESTION_BYTES * j + byte] ^= bit;
     judge_few(after);
     for (size_t k = 0; k < FEW; k++)
         if (k != j && memcmp(before + 12 * k, after + 12 * k, 12) != 0)
             report_say("  byte %zu of question %zu changed answer %zu", byte,
                        j, k);
-    report_question("changed", questions + 40 * j,
+    report_question("changed", questions + PLAIN_QUESTION_BYTES * j,
                     hendovita_get_answer(after + 12 * j),
-                    plain_question(questions + 40 * j));
-    questions[40 * j + byte] ^= bit;
+                    plain_question(questions + PLAIN_QUESTION_BYTES * j));
+    questions[PLAIN_QUESTION_BYTES * j + byte] ^= bit;
 }
 
 static void test_one_changed(void)
 {
     on_begin("one question changed changes that answer alone");
     for (size_t j = 0; j < FEW; j++)
-        for (size_t byte = 0; byte < 40; byte++)
+        for (size_t byte = 0; byte < PLAIN_QUESTION_BYTES; byte++)
             for (uint8_t bit = 0; bit < 8; bit++)
                 change_bit(j, byte, (uint8_t)(1 << bit));
 }
@@ -129,6 +156,7 @@ static void test_each(void)
 {
     draw_questions(3);
     test_sizes();
+    test_lengths_by_hand();
     test_lengths();
     test_one_changed();
 }

@@ -13,6 +13,7 @@ int main()
     asked.price = 19890;
     asked.current_bid = 19890;
     asked.current_ask = 19900;
+    asked.security_code = 1;
     hendovita_put_question(asked_bytes, &asked);
 
     const hendovita_outcome batch = hendovita_judge_batch(
@@ -25,7 +26,7 @@ int main()
     const hendovita_entered quoted =
         hendovita_enter_event(fresh.day, HENDOVITA_BEST_BID, 19890);
     const uint32_t filled = hendovita_fill_question(
-        quoted.day, HENDOVITA_BUY, HENDOVITA_LIMIT, 19890, 0, question,
+        quoted.day, HENDOVITA_BUY, HENDOVITA_LIMIT, 19890, 0, 99999, question,
         sizeof question);
     const hendovita_prepared once =
         hendovita_prepare(asked_bytes, sizeof asked_bytes);
@@ -55,6 +56,7 @@ int main()
         && fresh.day.previous_close == 20000 && quoted.day.last_bid == 19890
         && filled == HENDOVITA_ACCEPTED
         && question[2] == HENDOVITA_BUY_QUEUE_ONLY
+        && hendovita_get_number(question + 40) == 99999
         && hendovita_up(500, 24).price == 740
         && !hendovita_place_of(20050).found
         && hendovita_lower_limit(20200).price == 19190

@@ -4,6 +4,7 @@
  *
  * Each value is held against the library and against the plain count.
  */
+#include "coded.h"
 #include "on.h"
 #include "report.h"
 #include "tests.h"
@@ -75,6 +76,7 @@ static void test_limits(void)
 
 /* ---- questions -------------------------------------------------------- */
 
+/* Each has security code 1. */
 static const struct {
     struct hendovita_question question;
     struct plain_answer due;
@@ -153,9 +155,9 @@ static const struct {
 static void same_question(const struct hendovita_question *question,
                           struct plain_answer due)
 {
-    uint8_t bytes[40];
-    hendovita_put_question(bytes, question);
-    report_question("alone", bytes, on_question(bytes, 40), due);
+    uint8_t bytes[PLAIN_QUESTION_BYTES];
+    coded(bytes, question, 1);
+    report_question("alone", bytes, on_question(bytes, sizeof bytes), due);
     report_question("in two parts", bytes, on_two_parts(bytes), due);
     report_question("by the plain count", bytes,
                     counted(plain_question(bytes)), due);
@@ -238,7 +240,7 @@ static void test_days_by_hand(void)
     const struct hendovita_question due = {
         BUY, LIMIT, OPENING, 19050, .previous_close = 20050, .nominal = 20055,
     };
-    uint8_t found[40], bytes[40];
+    uint8_t found[PLAIN_QUESTION_BYTES], bytes[PLAIN_QUESTION_BYTES];
     report_begin("closes of fresh days, and a question from one, by hand");
     for (size_t i = 0; i < sizeof taken / sizeof *taken; i++)
         same_fresh(taken[i], 0, taken[i]);
@@ -250,9 +252,9 @@ static void test_days_by_hand(void)
     same_day(day, HENDOVITA_BEST_ASK, 20050);
     same_day(day, HENDOVITA_SYSTEM_TRADE, 20050);
     report_same("number of a fill",
-                hendovita_fill_question(day, BUY, LIMIT, 19050, 20055, found,
-                                        sizeof found), 0);
-    hendovita_put_question(bytes, &due);
+                hendovita_fill_question(day, BUY, LIMIT, 19050, 20055, 1,
+                                        found, sizeof found), 0);
+    coded(bytes, &due, 1);
     report_filled("filled", found, bytes);
     same_question(&due, (struct plain_answer){0, 19050, 180400});
 }

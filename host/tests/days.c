@@ -36,8 +36,8 @@ struct counts {
     uint32_t close[CLOSES];
     uint32_t situation[SITUATIONS];
     uint32_t queue[6];
-    uint32_t answer[11];
-    uint32_t trade[11];
+    uint32_t answer[SEEN_ANSWERS];
+    uint32_t trade[SEEN_ANSWERS];
     struct seen asked, traded;
 };
 
@@ -149,33 +149,38 @@ static void enter_both(struct both *both, struct plain_event event,
 
 /* ---- questions and trades --------------------------------------------- */
 
-/* No day of accepted events gives 4, and 3 is the caller's nominal, which lies
- * outside the ends of the ladder. */
-static void not_by_the_day(struct hendovita_answer found, uint32_t nominal)
+/* No day of accepted events gives 4; 3 is the caller's nominal, which lies
+ * outside the ends of the ladder, and 15 the caller's security code. */
+static void not_by_the_day(struct hendovita_answer found,
+                           struct plain_asked asked)
 {
+    uint32_t nominal = asked.nominal, code = asked.security_code;
     bool bad_nominal =
         nominal != 0 && (nominal < PLAIN_FIRST || nominal > PLAIN_LAST);
-    if (found.number == 4 || (found.number == 3 && !bad_nominal))
-        report_say("  a filled question with nominal %u gets %u", nominal,
-                   found.number);
+    bool bad_code = code < 1 || code > PLAIN_LAST_CODE;
+    if (found.number == 4 || (found.number == 3 && !bad_nominal)
+        || (found.number == 15 && !bad_code))
+        report_say("  a filled question with nominal %u and security code %u "
+                   "gets %u", nominal, code, found.number);
 }
 
 static void ask_both(struct draw *draw, struct draw_span span,
                      const struct both *both, struct counts *counts)
 {
     struct plain_asked asked = draw_asked(draw, span, &both->kept);
-    uint8_t found[40], due[40];
+    uint8_t found[PLAIN_QUESTION_BYTES], due[PLAIN_QUESTION_BYTES];
     uint32_t number = hendovita_fill_question(
-        both->day, asked.side, asked.type, asked.price, asked.nominal, found,
-        sizeof found);
+        both->day, asked.side, asked.type, asked.price, asked.nominal,
+        asked.security_code, found, sizeof found);
     plain_fill(&both->list, asked, due);
     report_same("number of a fill", number, 0);
     report_filled("filled from a list", found, due);
 
-    struct hendovita_answer answer = hendovita_judge_question(found, 40);
+    struct hendovita_answer answer =
+        hendovita_judge_question(found, sizeof found);
     struct plain_answer due_answer = plain_question(due);
     report_question("filled", due, answer, due_answer);
-    not_by_the_day(answer, asked.nominal);
+    not_by_the_day(answer, asked);
     counts->queue[due[2]]++;
     counts->answer[due_answer.number]++;
     seen_question(&counts->asked, due, due_answer);
@@ -242,7 +247,7 @@ static void all_often(const struct counts *counts)
         NO_CLOSE, ON_LADDER, BETWEEN, TURNED_AWAY,
     };
     static const uint32_t queues[] = {1, 2, 3, 4, 5};
-    static const uint32_t answers[] = {0, 2, 3, 5, 6, 7, 8, 9, 10};
+    static const uint32_t answers[] = {0, 2, 3, 5, 6, 7, 8, 9, 10, 15};
     static const uint32_t judged[] = {0, 6, 8, 9};
     often("an unknown event", counts->number[0], unknown, 1, 50000);
     often("a bid", counts->number[1], quotes, 3, 50000);
@@ -252,7 +257,7 @@ static void all_often(const struct counts *counts)
     often("a System trade", counts->number[5], trades, 2, 30000);
     often("closes", counts->close, closes, CLOSES, 10000);
     often("queue code", counts->queue, queues, 5, 20000);
-    often("answer", counts->answer, answers, 9, 10000);
+    often("answer", counts->answer, answers, 10, 10000);
     often("a trade's answer", counts->trade, judged, 4, 5000);
     seen_often(&counts->asked, SEEN_CLOSE, SEEN_BETWEEN, SEEN_AT_END, 5000);
     seen_often(&counts->asked, SEEN_NOMINAL, SEEN_OUTSIDE_REFUSED,
@@ -299,14 +304,15 @@ static void ask_any(struct draw *draw, struct draw_span span,
                     const struct plain_kept *kept)
 {
     struct plain_asked asked = draw_asked(draw, span, kept);
-    uint8_t found[40], due[40];
+    uint8_t found[PLAIN_QUESTION_BYTES], due[PLAIN_QUESTION_BYTES];
     uint32_t number = hendovita_fill_question(
         day_of(kept), asked.side, asked.type, asked.price, asked.nominal,
-        found, sizeof found);
+        asked.security_code, found, sizeof found);
     plain_fill_any(kept, asked, due);
     report_same("number of a fill", number, 0);
     report_filled("filled from any day", found, due);
-    report_question("filled", due, hendovita_judge_question(found, 40),
+    report_question("filled", due,
+                    hendovita_judge_question(found, sizeof found),
                     plain_question(due));
 }
 

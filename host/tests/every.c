@@ -3,7 +3,7 @@
  */
 #include "every.h"
 
-#include "hendovita.h"
+#include "coded.h"
 
 enum { SETS = 5 };
 
@@ -17,8 +17,11 @@ static const uint32_t fields[SETS][9] = {
     {25050, 25000, 25050, 24950, 25100, 25020, 24000, 25150, 25010},
 };
 
+/* A security code for each set. */
+static const uint32_t security[SETS] = {1, PLAIN_LAST_CODE, 256, 65536, 7000};
+
 /* Every code around the known ones, with one set of references. */
-static void every_code(uint8_t question[40], void use(const uint8_t[40]))
+static void every_code(uint8_t question[PLAIN_QUESTION_BYTES], every_use *use)
 {
     for (uint8_t side = 0; side <= 3; side++)
         for (uint8_t type = 0; type <= 4; type++)
@@ -32,10 +35,11 @@ static void every_code(uint8_t question[40], void use(const uint8_t[40]))
                 }
 }
 
-void every_question(void use(const uint8_t question[40]))
+void every_question(every_use *use)
 {
-    uint8_t question[40];
-    for (uint32_t i = 0; i < SETS; i++)
+    uint8_t question[PLAIN_QUESTION_BYTES];
+    for (uint32_t i = 0; i < SETS; i++) {
+        recode(question, security[i]);
         for (uint32_t present = 0; present < 256; present++) {
             for (uint32_t f = 0; f < 9; f++) {
                 uint32_t given = f == 0 || (present >> (f - 1) & 1) != 0;
@@ -44,4 +48,5 @@ void every_question(void use(const uint8_t question[40]))
             }
             every_code(question, use);
         }
+    }
 }

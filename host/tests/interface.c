@@ -37,7 +37,8 @@ static const struct {
     {13, HENDOVITA_QUOTES_CROSS,
      "bid not below current ask, or ask not above current bid"},
     {14, HENDOVITA_UNKNOWN_TABLE, "table number not 1 to 3"},
-    {15, 15, "no answer number"},
+    {15, HENDOVITA_BAD_SECURITY_CODE, "security code not 1 to 99999"},
+    {16, 16, "no answer number"},
     {UINT32_MAX, UINT32_MAX, "no answer number"},
 };
 
@@ -73,26 +74,28 @@ static void test_codes(void)
     report_same("buy queue empty", HENDOVITA_BUY_QUEUE_EMPTY, 3);
     report_same("sell queue empty", HENDOVITA_SELL_QUEUE_EMPTY, 4);
     report_same("System trade", HENDOVITA_SYSTEM_TRADE, 5);
-    report_same("question bytes", HENDOVITA_QUESTION_BYTES, 40);
+    report_same("question bytes", HENDOVITA_QUESTION_BYTES, 44);
     report_same("answer bytes", HENDOVITA_ANSWER_BYTES, 12);
     report_same("most questions", HENDOVITA_MOST_QUESTIONS, 1000);
+    report_same("last security code", HENDOVITA_LAST_SECURITY_CODE, 99999);
 }
 
 static void test_question_bytes(void)
 {
-    static const uint8_t due[40] = {
+    static const uint8_t due[PLAIN_QUESTION_BYTES] = {
         1, 2, 3, 0,
         4, 3, 2, 1, 8, 7, 6, 5, 12, 11, 10, 9, 16, 15, 14, 13, 20, 19, 18, 17,
         24, 23, 22, 21, 28, 27, 26, 25, 32, 31, 30, 29, 36, 35, 34, 33,
+        40, 39, 38, 37,
     };
     const struct hendovita_question question = {
         1, 2, 3, 0x01020304, 0x05060708, 0x090a0b0c, 0x0d0e0f10, 0x11121314,
-        0x15161718, 0x191a1b1c, 0x1d1e1f20, 0x21222324,
+        0x15161718, 0x191a1b1c, 0x1d1e1f20, 0x21222324, 0x25262728,
     };
-    uint8_t bytes[40];
-    report_begin("a question by name is these 40 bytes");
+    uint8_t bytes[PLAIN_QUESTION_BYTES];
+    report_begin("a question by name is these 44 bytes");
     hendovita_put_question(bytes, &question);
-    for (uint32_t i = 0; i < 40; i++)
+    for (uint32_t i = 0; i < sizeof bytes; i++)
         report_same("byte", bytes[i], due[i]);
 }
 

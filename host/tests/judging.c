@@ -1,8 +1,7 @@
 /*
  * Questions and trades on each table: the library against the plain count.
  */
-#include <string.h>
-
+#include "coded.h"
 #include "draw.h"
 #include "every.h"
 #include "on.h"
@@ -13,9 +12,10 @@
 enum { BATCH = 1000, BATCHES = 2000, TRADES = 500000 };
 enum { CROSSED = 200000 }; /* drawn on each other table */
 
-static void same_answer(const uint8_t question[40])
+static void same_answer(const uint8_t question[PLAIN_QUESTION_BYTES])
 {
-    report_question("alone", question, on_question(question, 40),
+    report_question("alone", question,
+                    on_question(question, PLAIN_QUESTION_BYTES),
                     plain_question(question));
 }
 
@@ -39,37 +39,39 @@ static void seen_strict(const struct seen *seen, uint32_t reference)
 }
 
 /* A batch as the library judges it, question by question. */
-static void same_batch(const uint8_t *questions, uint32_t counts[11],
+static void same_batch(const uint8_t *questions, uint32_t counts[SEEN_ANSWERS],
                        struct seen *seen)
 {
     static uint8_t answers[BATCH * 12];
     struct hendovita_outcome outcome =
-        on_batch(questions, BATCH * 40, answers, sizeof answers);
+        on_batch(questions, BATCH * PLAIN_QUESTION_BYTES, answers,
+                 sizeof answers);
     report_same("number", outcome.number, 0);
     report_same("count", outcome.count, BATCH);
     for (uint32_t k = 0; k < BATCH; k++) {
-        const uint8_t *question = questions + 40 * k;
+        const uint8_t *question = questions + PLAIN_QUESTION_BYTES * k;
         struct plain_answer due = plain_question(question);
         counts[due.number]++;
         seen_question(seen, question, due);
         report_question("in a batch", question,
                         hendovita_get_answer(answers + 12 * k), due);
-        report_question("alone", question, on_question(question, 40), due);
+        report_question("alone", question,
+                        on_question(question, PLAIN_QUESTION_BYTES), due);
     }
 }
 
 static void test_drawn_questions(void)
 {
-    static const uint32_t numbers[] = {0, 2, 3, 4, 5, 6, 7, 8, 9, 10};
-    static uint8_t questions[BATCH * 40];
-    uint32_t counts[11] = {0};
+    static const uint32_t numbers[] = {0, 2, 3, 4, 5, 6, 7, 8, 9, 10, 15};
+    static uint8_t questions[BATCH * PLAIN_QUESTION_BYTES];
+    uint32_t counts[SEEN_ANSWERS] = {0};
     struct seen seen = {0};
     struct draw draw;
     on_begin("2,000,000 drawn questions, in batches and alone");
     draw_begin(&draw, 1);
     for (uint32_t b = 0; b < BATCHES; b++) {
         for (uint32_t k = 0; k < BATCH; k++)
-            draw_question(&draw, questions + 40 * k);
+            draw_question(&draw, questions + PLAIN_QUESTION_BYTES * k);
         same_batch(questions, counts, &seen);
     }
     seen_numbers(counts, numbers, sizeof numbers / sizeof *numbers, 50000);
@@ -81,16 +83,17 @@ static void test_drawn_questions(void)
     seen_strict(&seen, SEEN_DAY_HIGH);
 }
 
+/* Good questions end to end, of which so many bytes are handed over. */
 static void test_other_lengths(void)
 {
-    uint8_t bytes[200];
+    uint8_t bytes[10 * PLAIN_QUESTION_BYTES];
     on_begin("one question of another length gets 1 with 0 and 0");
-    memset(bytes, 1, sizeof bytes);
+    coded_good(bytes, 10);
     for (size_t len = 0; len <= sizeof bytes; len++) {
-        if (len == 40)
-            continue;
         struct hendovita_answer found = on_question(bytes, len);
-        if (found.number != 1 || found.lowest != 0 || found.highest != 0)
+        if (len == PLAIN_QUESTION_BYTES)
+            report_same("number of 44 bytes", found.number, 0);
+        else if (found.number != 1 || found.lowest != 0 || found.highest != 0)
             report_say("  %zu bytes: found %u %u %u", len, found.number,
                        found.lowest, found.highest);
     }
@@ -99,7 +102,7 @@ static void test_other_lengths(void)
 static void test_drawn_trades(void)
 {
     static const uint32_t numbers[] = {0, 3, 4, 6, 8, 9};
-    uint32_t counts[11] = {0};
+    uint32_t counts[SEEN_ANSWERS] = {0};
     struct seen seen = {0};
     struct draw draw;
     on_begin("500,000 drawn trades");
@@ -121,12 +124,12 @@ static void test_drawn_trades(void)
 
 /* Questions and trades that are drawn on one table and judged on another, on
  * whose ladder many of their prices are not. */
-static void drawn_on(uint32_t other, uint32_t counts[11])
+static void drawn_on(uint32_t other, uint32_t counts[SEEN_ANSWERS])
 {
     struct draw draw;
     draw_begin(&draw, 10 + other);
     for (uint32_t i = 0; i < CROSSED; i++) {
-        uint8_t question[40];
+        uint8_t question[PLAIN_QUESTION_BYTES];
         uint32_t f[6];
         plain_use(other);
         draw_question(&draw, question);
@@ -142,7 +145,7 @@ static void drawn_on(uint32_t other, uint32_t counts[11])
 static void test_drawn_on_others(void)
 {
     static const uint32_t numbers[] = {0, 3, 7};
-    uint32_t counts[11] = {0};
+    uint32_t counts[SEEN_ANSWERS] = {0};
     on_begin("400,000 questions and trades drawn on the other tables");
     for (uint32_t other = 1; other <= PLAIN_TABLES; other++)
         if (other != on_which())

@@ -19,6 +19,7 @@ int main(void)
     test_closes();
     test_walk();
     test_refusals();
+    test_security();
     test_batches();
     test_memory();
     test_days();

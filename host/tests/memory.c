@@ -17,13 +17,13 @@ static void judge(const uint8_t *questions, size_t n, uint8_t *answers)
 {
     memset(answers, 0xa5, 12 * n);
     struct hendovita_outcome outcome =
-        on_batch(questions, 40 * n, answers, 12 * n);
+        on_batch(questions, PLAIN_QUESTION_BYTES * n, answers, 12 * n);
     report_same("number", outcome.number, 0);
     report_same("count", outcome.count, n);
     for (size_t k = 0; k < n; k++)
-        report_question("in a batch", questions + 40 * k,
+        report_question("in a batch", questions + PLAIN_QUESTION_BYTES * k,
                         hendovita_get_answer(answers + 12 * k),
-                        plain_question(questions + 40 * k));
+                        plain_question(questions + PLAIN_QUESTION_BYTES * k));
 }
 
 /* The same into a buffer that is one byte short: no byte is changed. */
@@ -31,55 +31,58 @@ static void refuse(const uint8_t *questions, size_t n, uint8_t *answers)
 {
     memset(answers, 0xa5, 12 * n - 1);
     struct hendovita_outcome outcome =
-        on_batch(questions, 40 * n, answers, 12 * n - 1);
+        on_batch(questions, PLAIN_QUESTION_BYTES * n, answers, 12 * n - 1);
     report_same("number", outcome.number, 1);
     report_same("count", outcome.count, 0);
     for (size_t i = 0; i < 12 * n - 1; i++)
         report_same("byte", answers[i], 0xa5);
 }
 
-/* Prepares the 40 bytes that stand there, and refuses fewer of them. */
+/* Prepares the 44 bytes that stand there, and refuses fewer of them. */
 static void prepare(const uint8_t *begin, const uint8_t *end)
 {
     static const struct plain_prepared refused = {1, 0, 0, 0};
-    report_prepared("prepared", begin, on_prepare(begin, 40),
+    report_prepared("prepared", begin, on_prepare(begin, PLAIN_QUESTION_BYTES),
                     plain_prepare(begin));
-    for (size_t len = 0; len < 40; len++)
+    for (size_t len = 0; len < PLAIN_QUESTION_BYTES; len++)
         report_prepared("a part of it", begin, on_prepare(end - len, len),
                         refused);
 }
 
 static void test_guard_pages(uint8_t *questions, uint8_t *answers,
-                             const uint8_t drawn[40000])
+                             const uint8_t drawn[1000 * PLAIN_QUESTION_BYTES])
 {
     static const size_t sizes[] = {1, 2, 3, 100, 999, 1000};
     on_begin("questions and answers that end, or begin, at a guard page");
     for (size_t i = 0; i < sizeof sizes / sizeof *sizes; i++) {
         size_t n = sizes[i];
-        uint8_t *last = questions + BYTES - 40 * n;
-        memcpy(last, drawn, 40 * n);
+        uint8_t *last = questions + BYTES - PLAIN_QUESTION_BYTES * n;
+        memcpy(last, drawn, PLAIN_QUESTION_BYTES * n);
         judge(last, n, answers + BYTES - 12 * n);
         refuse(last, n, answers + BYTES - 12 * n + 1);
-        memcpy(questions, drawn, 40 * n);
+        memcpy(questions, drawn, PLAIN_QUESTION_BYTES * n);
         judge(questions, n, answers);
-        report_question("alone", questions + BYTES - 40,
-                        on_question(questions + BYTES - 40, 40),
-                        plain_question(questions + BYTES - 40));
+        last = questions + BYTES - PLAIN_QUESTION_BYTES;
+        report_question("alone", last,
+                        on_question(last, PLAIN_QUESTION_BYTES),
+                        plain_question(last));
         prepare(questions, questions + BYTES);
-        prepare(questions + BYTES - 40, questions + BYTES);
+        prepare(last, questions + BYTES);
     }
 }
 
 static void test_alignment(uint8_t *questions, uint8_t *answers,
-                           const uint8_t drawn[40000])
+                           const uint8_t drawn[1000 * PLAIN_QUESTION_BYTES])
 {
     on_begin("questions and answers at every alignment");
     for (size_t i = 0; i < 16; i++) {
-        memcpy(questions + i, drawn, 40 * 50);
-        for (size_t k = 0; k < 50; k++)
-            report_prepared("prepared", questions + i + 40 * k,
-                            on_prepare(questions + i + 40 * k, 40),
-                            plain_prepare(drawn + 40 * k));
+        memcpy(questions + i, drawn, PLAIN_QUESTION_BYTES * 50);
+        for (size_t k = 0; k < 50; k++) {
+            uint8_t *one = questions + i + PLAIN_QUESTION_BYTES * k;
+            report_prepared("prepared", one,
+                            on_prepare(one, PLAIN_QUESTION_BYTES),
+                            plain_prepare(drawn + PLAIN_QUESTION_BYTES * k));
+        }
         for (size_t j = 0; j < 16; j++)
             judge(questions + i, 50, answers + j);
     }
@@ -102,7 +105,7 @@ static void test_no_bytes(uint8_t *questions, uint8_t *answers)
     empty(questions + BYTES, answers + BYTES, 0);
     report_same("first byte", answers[0], 77);
     struct hendovita_outcome outcome =
-        on_batch(questions, 40, NULL, 0);
+        on_batch(questions, PLAIN_QUESTION_BYTES, NULL, 0);
     report_same("number without a buffer", outcome.number, 1);
     report_same("number of no question",
                 on_question(NULL, 0).number, 1);
@@ -116,11 +119,11 @@ static uint8_t *questions, *answers;
 
 static void test_each(void)
 {
-    static uint8_t drawn[40000];
+    static uint8_t drawn[1000 * PLAIN_QUESTION_BYTES];
     struct draw draw;
     draw_begin(&draw, 4);
     for (size_t k = 0; k < 1000; k++)
-        draw_question(&draw, drawn + 40 * k);
+        draw_question(&draw, drawn + PLAIN_QUESTION_BYTES * k);
     test_guard_pages(questions, answers, drawn);
     test_alignment(questions, answers, drawn);
     test_no_bytes(questions, answers);

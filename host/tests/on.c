@@ -148,9 +148,11 @@ struct hendovita_outcome on_batch(const uint8_t *questions,
                                    answers_len);
 }
 
-struct hendovita_answer on_two_parts(const uint8_t question[40])
+struct hendovita_answer
+on_two_parts(const uint8_t question[PLAIN_QUESTION_BYTES])
 {
-    struct hendovita_prepared first = on_prepare(question, 40);
+    struct hendovita_prepared first =
+        on_prepare(question, PLAIN_QUESTION_BYTES);
     if (first.number != 0)
         return (struct hendovita_answer){first.number, 0, 0};
     return on_judge_prepared(first.lowest, first.highest, first.nine_fold,

@@ -9,6 +9,7 @@
 #include <stdint.h>
 
 #include "hendovita.h"
+#include "plain.h"
 
 /* Runs a test four times: on each table, which its calls name, and on table 2
  * with calls that name none. The plain count has the same table in use. */
@@ -51,6 +52,7 @@ struct hendovita_outcome on_batch(const uint8_t *questions,
 
 /* A question judged in two parts: it is prepared and, where it is not refused,
  * its order price is judged by what that gave. */
-struct hendovita_answer on_two_parts(const uint8_t question[40]);
+struct hendovita_answer
+on_two_parts(const uint8_t question[PLAIN_QUESTION_BYTES]);
 
 #endif

@@ -4,6 +4,7 @@
  */
 #include <string.h>
 
+#include "coded.h"
 #include "draw.h"
 #include "draw_price.h"
 #include "every.h"
@@ -25,6 +26,7 @@ static struct hendovita_prepared counted(struct plain_prepared prepared)
                                        prepared.highest, prepared.nine_fold};
 }
 
+/* Each has security code 1. */
 static const struct {
     struct hendovita_question question;
     struct plain_prepared due[PLAIN_TABLES];
@@ -84,9 +86,10 @@ static void test_by_hand(void)
     on_begin("ranges of questions and nine-fold references, by hand");
     for (size_t i = 0; i < sizeof prepared / sizeof *prepared; i++) {
         struct plain_prepared due = prepared[i].due[on_which() - 1];
-        uint8_t bytes[40];
-        hendovita_put_question(bytes, &prepared[i].question);
-        report_prepared("prepared", bytes, on_prepare(bytes, 40), due);
+        uint8_t bytes[PLAIN_QUESTION_BYTES];
+        coded(bytes, &prepared[i].question, 1);
+        report_prepared("prepared", bytes, on_prepare(bytes, sizeof bytes),
+                        due);
         report_prepared("by the plain count", bytes,
                         counted(plain_prepare(bytes)), due);
     }
@@ -96,9 +99,10 @@ static void test_by_hand(void)
 
 enum { DRAWN = 100000 };
 
-static void same_prepared(const uint8_t question[40])
+static void same_prepared(const uint8_t question[PLAIN_QUESTION_BYTES])
 {
-    report_prepared("prepared", question, on_prepare(question, 40),
+    report_prepared("prepared", question,
+                    on_prepare(question, PLAIN_QUESTION_BYTES),
                     plain_prepare(question));
 }
 
@@ -110,7 +114,8 @@ static void test_every_code(void)
 
 /* With other order prices the question gives the same, and the price that it
  * has comes back. */
-static void same_with_any_price(struct draw *draw, uint8_t question[40],
+static void same_with_any_price(struct draw *draw,
+                                uint8_t question[PLAIN_QUESTION_BYTES],
                                 struct plain_prepared due)
 {
     uint32_t price = hendovita_get_number(question + 4);
@@ -119,7 +124,7 @@ static void same_with_any_price(struct draw *draw, uint8_t question[40],
     for (size_t i = 0; i < sizeof others / sizeof *others; i++) {
         hendovita_put_number(question + 4, others[i]);
         report_prepared("with another price", question,
-                        on_prepare(question, 40), due);
+                        on_prepare(question, PLAIN_QUESTION_BYTES), due);
     }
     hendovita_put_number(question + 4, price);
 }
@@ -129,16 +134,17 @@ enum { MISSING, PRESENT, KINDS };
 
 static void test_drawn(void)
 {
-    static const uint32_t numbers[] = {0, 2, 3, 4, 5};
-    uint32_t counts[11] = {0}, seen[2][KINDS] = {{0}};
+    static const uint32_t numbers[] = {0, 2, 3, 4, 5, 15};
+    uint32_t counts[SEEN_ANSWERS] = {0}, seen[2][KINDS] = {{0}};
     struct draw draw;
     on_begin("100,000 drawn questions are prepared, whatever the order price");
     draw_begin(&draw, 31);
     for (uint32_t i = 0; i < DRAWN; i++) {
-        uint8_t question[40];
+        uint8_t question[PLAIN_QUESTION_BYTES];
         draw_question(&draw, question);
         struct plain_prepared due = plain_prepare(question);
-        report_prepared("prepared", question, on_prepare(question, 40), due);
+        report_prepared("prepared", question,
+                        on_prepare(question, sizeof question), due);
         same_with_any_price(&draw, question, due);
         counts[due.number]++;
         if (due.number == 0)
@@ -152,21 +158,16 @@ static void test_drawn(void)
                            seen[opening][kind], opening, kind);
 }
 
-/* Two good questions end to end, of which so many bytes are handed over. */
+/* Good questions end to end, of which so many bytes are handed over. */
 static void test_other_lengths(void)
 {
-    static const struct hendovita_question good = {
-        BUY, LIMIT, BOTH, .price = 19890, .current_bid = 19900,
-        .current_ask = 20000, .nominal = 20000,
-    };
-    uint8_t bytes[80];
+    uint8_t bytes[10 * PLAIN_QUESTION_BYTES];
     on_begin("a question of another length is prepared as 1 with zeros");
-    hendovita_put_question(bytes, &good);
-    hendovita_put_question(bytes + 40, &good);
+    coded_good(bytes, 10);
     for (size_t len = 0; len <= sizeof bytes; len++) {
         struct hendovita_prepared found = on_prepare(bytes, len);
-        if (len == 40)
-            report_same("number of 40 bytes", found.number, 0);
+        if (len == PLAIN_QUESTION_BYTES)
+            report_same("number of 44 bytes", found.number, 0);
         else if (found.number != 1 || found.lowest != 0 || found.highest != 0
                  || found.nine_fold != 0)
             report_say("  %zu bytes: found %u %u %u %u", len, found.number,
@@ -224,7 +225,8 @@ static uint32_t any_price(struct draw *draw, struct plain_prepared permitted,
 }
 
 /* At and around whatever decides, then any. */
-static void set_prices(struct draw *draw, const uint8_t question[40],
+static void set_prices(struct draw *draw,
+                       const uint8_t question[PLAIN_QUESTION_BYTES],
                        struct prices *to)
 {
     static const uint32_t ends[] = {
@@ -247,29 +249,32 @@ static void set_prices(struct draw *draw, const uint8_t question[40],
 }
 
 /* The question once with each price, end to end. */
-static void write_each(const uint8_t question[40], const struct prices *prices,
-                       uint8_t whole[PRICES * 40])
+static void write_each(const uint8_t question[PLAIN_QUESTION_BYTES],
+                       const struct prices *prices,
+                       uint8_t whole[PRICES * PLAIN_QUESTION_BYTES])
 {
     for (uint32_t k = 0; k < PRICES; k++) {
-        memcpy(whole + 40 * k, question, 40);
-        hendovita_put_number(whole + 40 * k + 4, prices->price[k]);
+        uint8_t *one = whole + PLAIN_QUESTION_BYTES * k;
+        memcpy(one, question, PLAIN_QUESTION_BYTES);
+        hendovita_put_number(one + 4, prices->price[k]);
     }
 }
 
 /* Prepared once, and each price judged by that: as the question with that
  * price, alone, in a batch and by the plain count. */
-static void judge_many(const uint8_t question[40],
-                       const struct prices *prices, uint32_t counts[11])
+static void judge_many(const uint8_t question[PLAIN_QUESTION_BYTES],
+                       const struct prices *prices,
+                       uint32_t counts[SEEN_ANSWERS])
 {
-    static uint8_t whole[PRICES * 40], answers[PRICES * 12];
-    struct hendovita_prepared once = on_prepare(question, 40);
+    static uint8_t whole[PRICES * PLAIN_QUESTION_BYTES], answers[PRICES * 12];
+    struct hendovita_prepared once = on_prepare(question, PLAIN_QUESTION_BYTES);
     write_each(question, prices, whole);
     report_same("number when prepared", once.number, 0);
     report_same("count of the batch",
                 on_batch(whole, sizeof whole, answers, sizeof answers).count,
                 PRICES);
     for (uint32_t k = 0; k < PRICES; k++) {
-        const uint8_t *one = whole + 40 * k;
+        const uint8_t *one = whole + PLAIN_QUESTION_BYTES * k;
         const uint32_t numbers[4] = {once.lowest, once.highest,
                                      once.nine_fold, prices->price[k]};
         struct plain_answer due = plain_question(one);
@@ -277,13 +282,15 @@ static void judge_many(const uint8_t question[40],
         report_judged(numbers,
                       on_judge_prepared(numbers[0], numbers[1], numbers[2],
                                         numbers[3]), due);
-        report_question("alone", one, on_question(one, 40), due);
+        report_question("alone", one,
+                        on_question(one, PLAIN_QUESTION_BYTES), due);
         report_question("in a batch", one,
                         hendovita_get_answer(answers + 12 * k), due);
     }
 }
 
-static void draw_prepared(struct draw *draw, uint8_t question[40])
+static void draw_prepared(struct draw *draw,
+                          uint8_t question[PLAIN_QUESTION_BYTES])
 {
     do
         draw_question(draw, question);
@@ -297,7 +304,8 @@ struct prepared_seen {
     uint32_t below, above, all;
 };
 
-static void see(struct prepared_seen *seen, const uint8_t question[40])
+static void see(struct prepared_seen *seen,
+                const uint8_t question[PLAIN_QUESTION_BYTES])
 {
     struct plain_prepared permitted = plain_prepare(question);
     struct plain_answer shown = plain_question(question);
@@ -335,13 +343,13 @@ static void seen_enough(const struct prepared_seen *seen)
 static void test_both_parts(void)
 {
     static const uint32_t numbers[] = {0, 6, 7, 8, 9, 10};
-    uint32_t counts[11] = {0};
+    uint32_t counts[SEEN_ANSWERS] = {0};
     struct prepared_seen seen = {0};
     struct draw draw;
     on_begin("2,000 questions prepared once, 500 order prices judged by each");
     draw_begin(&draw, 32);
     for (uint32_t i = 0; i < QUESTIONS; i++) {
-        uint8_t question[40];
+        uint8_t question[PLAIN_QUESTION_BYTES];
         struct prices prices;
         draw_prepared(&draw, question);
         set_prices(&draw, question, &prices);
@@ -355,19 +363,20 @@ static void test_both_parts(void)
 /* Refused ones too: the number of the first part is then the answer. */
 static void test_as_the_whole(void)
 {
-    static const uint32_t numbers[] = {0, 2, 3, 4, 5, 6, 7, 8, 9, 10};
-    uint32_t counts[11] = {0};
+    static const uint32_t numbers[] = {0, 2, 3, 4, 5, 6, 7, 8, 9, 10, 15};
+    uint32_t counts[SEEN_ANSWERS] = {0};
     struct draw draw;
     on_begin("100,000 drawn questions in two parts, as the whole question");
     draw_begin(&draw, 33);
     for (uint32_t i = 0; i < DRAWN; i++) {
-        uint8_t question[40];
+        uint8_t question[PLAIN_QUESTION_BYTES];
         draw_question(&draw, question);
         struct plain_answer due = plain_question(question);
         counts[due.number]++;
         report_question("in two parts", question, on_two_parts(question),
                         due);
-        report_question("alone", question, on_question(question, 40), due);
+        report_question("alone", question,
+                        on_question(question, sizeof question), due);
     }
     seen_numbers(counts, numbers, sizeof numbers / sizeof *numbers, 2500);
 }

@@ -81,21 +81,23 @@ static void print_answers(struct hendovita_answer found,
     fflush(stdout);
 }
 
-static void print_question(const char *how, const uint8_t question[40])
+static void print_question(const char *how,
+                           const uint8_t question[PLAIN_QUESTION_BYTES])
 {
-    static const char *const names[9] = {
+    static const char *const names[10] = {
         "price", "current bid", "current ask", "last bid", "last ask",
-        "previous close", "day low", "day high", "nominal",
+        "previous close", "day low", "day high", "nominal", "security code",
     };
     printf("  %s: side %u, order type %u, queue %u, byte 3 %u", how,
            question[0], question[1], question[2], question[3]);
-    for (int i = 0; i < 9; i++)
+    for (int i = 0; i < 10; i++)
         printf(", %s %" PRIu32, names[i],
                hendovita_get_number(question + 4 + 4 * i));
     printf("\n");
 }
 
-void report_question(const char *how, const uint8_t question[40],
+void report_question(const char *how,
+                     const uint8_t question[PLAIN_QUESTION_BYTES],
                      struct hendovita_answer found, struct plain_answer due)
 {
     if (same(found, due) || !is_printed())
@@ -120,7 +122,8 @@ void report_trade(const uint32_t fields[6], struct hendovita_answer found,
     print_answers(found, due);
 }
 
-void report_prepared(const char *how, const uint8_t question[40],
+void report_prepared(const char *how,
+                     const uint8_t question[PLAIN_QUESTION_BYTES],
                      struct hendovita_prepared found,
                      struct plain_prepared due)
 {
@@ -211,12 +214,12 @@ void report_entered(const char *how, struct plain_event event,
     fflush(stdout);
 }
 
-void report_filled(const char *how, const uint8_t found[40],
-                   const uint8_t due[40])
+void report_filled(const char *how, const uint8_t found[PLAIN_QUESTION_BYTES],
+                   const uint8_t due[PLAIN_QUESTION_BYTES])
 {
-    if (memcmp(found, due, 40) == 0 || !is_printed())
+    if (memcmp(found, due, PLAIN_QUESTION_BYTES) == 0 || !is_printed())
         return;
-    for (int i = 0; i < 40; i++)
+    for (int i = 0; i < PLAIN_QUESTION_BYTES; i++)
         if (found[i] != due[i])
             printf("  %s: byte %d is %u, due %u\n", how, i, found[i], due[i]);
     fflush(stdout);

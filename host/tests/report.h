@@ -23,7 +23,8 @@ void report_same(const char *what, uint64_t found, uint64_t due);
 
 /* Faults unless the answer is the one that is due: they print the question's
  * or the trade's fields and both answers, and how the question was asked. */
-void report_question(const char *how, const uint8_t question[40],
+void report_question(const char *how,
+                     const uint8_t question[PLAIN_QUESTION_BYTES],
                      struct hendovita_answer found, struct plain_answer due);
 void report_trade(const uint32_t fields[6], struct hendovita_answer found,
                   struct plain_answer due);
@@ -32,7 +33,8 @@ void report_trade(const uint32_t fields[6], struct hendovita_answer found,
  * judged as is due, by what was prepared or by any numbers: they print what was
  * given and both outcomes. The four numbers are lowest, highest, nine-fold
  * reference and order price. */
-void report_prepared(const char *how, const uint8_t question[40],
+void report_prepared(const char *how,
+                     const uint8_t question[PLAIN_QUESTION_BYTES],
                      struct hendovita_prepared found,
                      struct plain_prepared due);
 void report_judged(const uint32_t numbers[4], struct hendovita_answer found,
@@ -44,9 +46,9 @@ void report_entered(const char *how, struct plain_event event,
                     struct hendovita_entered found, uint32_t number,
                     const struct plain_kept *due);
 
-/* A fault unless the 40 bytes are those that are due. */
-void report_filled(const char *how, const uint8_t found[40],
-                   const uint8_t due[40]);
+/* A fault unless the 44 bytes are those that are due. */
+void report_filled(const char *how, const uint8_t found[PLAIN_QUESTION_BYTES],
+                   const uint8_t due[PLAIN_QUESTION_BYTES]);
 
 /* Ends the run: prints how many passed and failed. 0 if none failed. */
 int report_finish(void);

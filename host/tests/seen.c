@@ -9,7 +9,7 @@
 
 #include "report.h"
 
-void seen_numbers(const uint32_t counts[11], const uint32_t *numbers,
+void seen_numbers(const uint32_t counts[SEEN_ANSWERS], const uint32_t *numbers,
                   size_t many, uint32_t least)
 {
     for (size_t i = 0; i < many; i++)
@@ -25,7 +25,7 @@ typedef struct plain_answer answer_with(const void *asked, uint32_t reference,
 static struct plain_answer question_with(const void *asked, uint32_t reference,
                                          uint32_t price)
 {
-    uint8_t question[40];
+    uint8_t question[PLAIN_QUESTION_BYTES];
     memcpy(question, asked, sizeof question);
     hendovita_put_number(question + 8 + 4 * reference, price);
     return plain_question(question);
@@ -67,7 +67,8 @@ static void count_one(uint32_t count[SEEN_KINDS], const void *asked,
                        && answer.number == 0;
 }
 
-void seen_question(struct seen *seen, const uint8_t question[40],
+void seen_question(struct seen *seen,
+                   const uint8_t question[PLAIN_QUESTION_BYTES],
                    struct plain_answer answer)
 {
     for (uint32_t i = 0; i < SEEN_REFERENCES; i++)

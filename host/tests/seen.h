@@ -10,8 +10,11 @@
 
 #include "plain.h"
 
+/* The answer numbers are below this. */
+enum { SEEN_ANSWERS = 16 };
+
 /* Faults unless each of these answer numbers was counted so often. */
-void seen_numbers(const uint32_t counts[11], const uint32_t *numbers,
+void seen_numbers(const uint32_t counts[SEEN_ANSWERS], const uint32_t *numbers,
                   size_t many, uint32_t least);
 
 /* The references of a question, and of a trade. */
@@ -40,7 +43,8 @@ struct seen {
 };
 
 /* Counts a question or a trade, given its answer. */
-void seen_question(struct seen *seen, const uint8_t question[40],
+void seen_question(struct seen *seen,
+                   const uint8_t question[PLAIN_QUESTION_BYTES],
                    struct plain_answer answer);
 void seen_trade(struct seen *seen, const uint32_t fields[6],
                 struct plain_answer answer);

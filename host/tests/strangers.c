@@ -156,7 +156,7 @@ static uint32_t same(uint32_t lowest, uint32_t highest, uint32_t nine_fold,
 
 /* Order prices at and beside what may decide. */
 static void same_few(uint32_t lowest, uint32_t highest, uint32_t nine_fold,
-                     uint32_t counts[11])
+                     uint32_t counts[SEEN_ANSWERS])
 {
     struct plain_answer shown =
         plain_judge_prepared(lowest, highest, nine_fold, 0);
@@ -177,7 +177,7 @@ enum { VERDICTS = sizeof verdicts / sizeof *verdicts };
 
 static void test_chosen(void)
 {
-    uint32_t counts[11] = {0};
+    uint32_t counts[SEEN_ANSWERS] = {0};
     on_begin("chosen numbers for range and reference, all with each other");
     for (size_t i = 0; i < CHOSEN; i++)
         for (size_t j = 0; j < CHOSEN; j++)
@@ -230,7 +230,7 @@ static uint32_t beside(struct draw *draw, uint32_t number)
 /* Each number by itself, or most of them by those before. */
 static void test_drawn(void)
 {
-    uint32_t counts[11] = {0};
+    uint32_t counts[SEEN_ANSWERS] = {0};
     struct draw draw;
     on_begin("1,000,000 drawn numbers for range, reference and order price");
     draw_begin(&draw, 34);

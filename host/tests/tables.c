@@ -4,6 +4,7 @@
  *
  * Each value is held against the library and against the plain count.
  */
+#include "coded.h"
 #include "on.h"
 #include "report.h"
 #include "tests.h"
@@ -166,6 +167,7 @@ static struct hendovita_answer as_answer(struct plain_answer answer)
                                      answer.highest};
 }
 
+/* Each has security code 1. */
 static const struct {
     struct hendovita_question question;
     struct plain_answer due[PLAIN_TABLES];
@@ -216,11 +218,13 @@ static void test_questions(void)
     on_begin("questions and trades that tell the tables apart, by hand");
     for (size_t i = 0; i < sizeof questions / sizeof *questions; i++) {
         struct plain_answer due = questions[i].due[on_which() - 1];
-        uint8_t bytes[40], answer[12];
-        hendovita_put_question(bytes, &questions[i].question);
-        report_question("alone", bytes, on_question(bytes, 40), due);
+        uint8_t bytes[PLAIN_QUESTION_BYTES], answer[12];
+        coded(bytes, &questions[i].question, 1);
+        report_question("alone", bytes, on_question(bytes, sizeof bytes),
+                        due);
         report_question("in two parts", bytes, on_two_parts(bytes), due);
-        report_same("count", on_batch(bytes, 40, answer, 12).count, 1);
+        report_same("count",
+                    on_batch(bytes, sizeof bytes, answer, 12).count, 1);
         report_question("in a batch", bytes, hendovita_get_answer(answer),
                         due);
         report_question("by the plain count", bytes,
@@ -241,15 +245,15 @@ static void test_day(void)
     static const struct plain_answer due[PLAIN_TABLES] = {
         {3, 0, 0}, {0, 19020, 9995000}, {0, 19020, 9995000},
     };
-    uint8_t bytes[40];
+    uint8_t bytes[PLAIN_QUESTION_BYTES];
     struct hendovita_entered entered = hendovita_enter_event(
         hendovita_open_day(0).day, HENDOVITA_BEST_BID, 20020);
     on_begin("a question from a day, by hand");
     report_same("number of the event", entered.number, 0);
     report_same("number of the fill",
-                hendovita_fill_question(entered.day, BUY, LIMIT, 20020, 0,
+                hendovita_fill_question(entered.day, BUY, LIMIT, 20020, 0, 1,
                                         bytes, sizeof bytes), 0);
-    report_question("from a day", bytes, on_question(bytes, 40),
+    report_question("from a day", bytes, on_question(bytes, sizeof bytes),
                     due[on_which() - 1]);
     report_question("by the plain count", bytes,
                     as_answer(plain_question(bytes)), due[on_which() - 1]);

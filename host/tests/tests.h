@@ -14,6 +14,7 @@ void test_strangers(void); /* strangers.c: order prices by any numbers */
 void test_closes(void);    /* closes.c: closes and nominals between prices */
 void test_walk(void);      /* walk.c: every price as a reference */
 void test_refusals(void);  /* refusals.c: which references get 3 */
+void test_security(void);  /* security.c: which codes get 15 */
 void test_batches(void);   /* batches.c: lengths, buffers, every byte */
 void test_tables(void);    /* tables.c: what tells the tables apart */
 void test_unknown(void);   /* unknown.c: numbers that name no table */

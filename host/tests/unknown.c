@@ -134,9 +134,9 @@ static void refused(const char *what, uint32_t table,
 /* On a table, the questions would get every number that there is. */
 static void test_questions(void)
 {
-    static const uint32_t numbers[] = {0, 2, 3, 4, 5, 6, 7, 8, 9, 10};
-    uint32_t counts[11] = {0};
-    uint8_t bytes[40];
+    static const uint32_t numbers[] = {0, 2, 3, 4, 5, 6, 7, 8, 9, 10, 15};
+    uint32_t counts[SEEN_ANSWERS] = {0};
+    uint8_t bytes[PLAIN_QUESTION_BYTES];
     struct draw draw;
     report_begin("no table: 14 for a question, good or bad");
     draw_begin(&draw, 22);
@@ -146,7 +146,7 @@ static void test_questions(void)
         draw_question(&draw, bytes);
         counts[plain_question(bytes).number]++;
         refused("question", table,
-                hendovita_judge_question_on(table, bytes, 40), 14);
+                hendovita_judge_question_on(table, bytes, sizeof bytes), 14);
     }
     seen_numbers(counts, numbers, sizeof numbers / sizeof *numbers, 1000);
 }
@@ -154,15 +154,15 @@ static void test_questions(void)
 static void test_lengths(void)
 {
     static const uint8_t filling[] = {0, 1, 2, 255};
-    uint8_t bytes[90];
-    report_begin("no table: 1 before it, for a question not of 40 bytes");
+    uint8_t bytes[200];
+    report_begin("no table: 1 before it, for a question not of 44 bytes");
     for (size_t f = 0; f < sizeof filling; f++) {
         memset(bytes, filling[f], sizeof bytes);
         for (size_t i = 0; i < UNKNOWN; i++)
             for (size_t len = 0; len <= sizeof bytes; len++)
                 refused("length", unknown[i],
                         hendovita_judge_question_on(unknown[i], bytes, len),
-                        len == 40 ? 14 : 1);
+                        len == PLAIN_QUESTION_BYTES ? 14 : 1);
     }
     for (size_t i = 0; i < UNKNOWN; i++)
         refused("no question", unknown[i],
@@ -181,12 +181,12 @@ static void not_prepared(const char *what, uint32_t table,
                    found.nine_fold, number);
 }
 
-/* On a table, they would be prepared or get 2, 3, 4 or 5. */
+/* On a table, they would be prepared or get 2, 3, 4, 5 or 15. */
 static void test_prepared_questions(void)
 {
-    static const uint32_t numbers[] = {0, 2, 3, 4, 5};
-    uint32_t counts[11] = {0};
-    uint8_t bytes[40];
+    static const uint32_t numbers[] = {0, 2, 3, 4, 5, 15};
+    uint32_t counts[SEEN_ANSWERS] = {0};
+    uint8_t bytes[PLAIN_QUESTION_BYTES];
     struct draw draw;
     report_begin("no table: 14 with zeros for a question to be prepared");
     draw_begin(&draw, 26);
@@ -196,7 +196,7 @@ static void test_prepared_questions(void)
         draw_question(&draw, bytes);
         counts[plain_prepare(bytes).number]++;
         not_prepared("question", table,
-                     hendovita_prepare_on(table, bytes, 40), 14);
+                     hendovita_prepare_on(table, bytes, sizeof bytes), 14);
     }
     seen_numbers(counts, numbers, sizeof numbers / sizeof *numbers, 5000);
 }
@@ -204,15 +204,15 @@ static void test_prepared_questions(void)
 static void test_prepared_lengths(void)
 {
     static const uint8_t filling[] = {0, 1, 2, 255};
-    uint8_t bytes[90];
-    report_begin("no table: 1 before it, to be prepared from not 40 bytes");
+    uint8_t bytes[200];
+    report_begin("no table: 1 before it, to be prepared from not 44 bytes");
     for (size_t f = 0; f < sizeof filling; f++) {
         memset(bytes, filling[f], sizeof bytes);
         for (size_t i = 0; i < UNKNOWN; i++)
             for (size_t len = 0; len <= sizeof bytes; len++)
                 not_prepared("length", unknown[i],
                              hendovita_prepare_on(unknown[i], bytes, len),
-                             len == 40 ? 14 : 1);
+                             len == PLAIN_QUESTION_BYTES ? 14 : 1);
     }
     for (size_t i = 0; i < UNKNOWN; i++)
         not_prepared("no question", unknown[i],
@@ -228,7 +228,7 @@ static uint32_t any_price(struct draw *draw)
 static void test_prepared_prices(void)
 {
     static const uint32_t numbers[] = {0, 6, 7, 8, 9, 10};
-    uint32_t counts[11] = {0};
+    uint32_t counts[SEEN_ANSWERS] = {0};
     struct draw draw;
     report_begin("no table: 14 with 0 and 0 for an order price, by any range");
     draw_begin(&draw, 27);
@@ -268,7 +268,7 @@ static void test_trades(void)
 
 enum { MOST = 1001, SPARE = 64 };
 
-static uint8_t questions[MOST * 40 + SPARE];
+static uint8_t questions[MOST * PLAIN_QUESTION_BYTES + SPARE];
 static uint8_t answers[MOST * 12 + SPARE];
 
 static uint8_t pattern(size_t i)
@@ -279,8 +279,9 @@ static uint8_t pattern(size_t i)
 /* One call: 14, or 1 where that comes first, and every byte as it was. */
 static void judge(uint32_t table, size_t asked, size_t room)
 {
-    bool taken = asked % 40 == 0 && asked / 40 <= 1000
-              && room >= asked / 40 * 12;
+    size_t whole = asked / PLAIN_QUESTION_BYTES;
+    bool taken = asked % PLAIN_QUESTION_BYTES == 0 && whole <= 1000
+              && room >= whole * 12;
     uint32_t due = taken ? 14 : 1;
     for (size_t i = 0; i < sizeof answers; i++)
         answers[i] = pattern(i);
@@ -300,17 +301,17 @@ static void every_size(uint32_t table)
     static const size_t sizes[] = {0, 1, 2, 3, 25, 999, 1000, 1001};
     for (size_t i = 0; i < sizeof sizes / sizeof *sizes; i++) {
         size_t n = sizes[i];
-        judge(table, 40 * n, 0);
-        judge(table, 40 * n, 12 * n);
-        judge(table, 40 * n, 12 * n + 1);
-        judge(table, 40 * n, sizeof answers);
-        judge(table, 40 * n + 1, sizeof answers);
+        judge(table, PLAIN_QUESTION_BYTES * n, 0);
+        judge(table, PLAIN_QUESTION_BYTES * n, 12 * n);
+        judge(table, PLAIN_QUESTION_BYTES * n, 12 * n + 1);
+        judge(table, PLAIN_QUESTION_BYTES * n, sizeof answers);
+        judge(table, PLAIN_QUESTION_BYTES * n + 1, sizeof answers);
         if (n > 0) {
-            judge(table, 40 * n, 12 * n - 1);
-            judge(table, 40 * n - 1, sizeof answers);
+            judge(table, PLAIN_QUESTION_BYTES * n, 12 * n - 1);
+            judge(table, PLAIN_QUESTION_BYTES * n - 1, sizeof answers);
         }
     }
-    for (size_t asked = 0; asked <= 90; asked++)
+    for (size_t asked = 0; asked <= 300; asked++)
         judge(table, asked, sizeof answers);
 }
 
@@ -329,7 +330,8 @@ static void empty(uint32_t table)
     }
     report_same("the byte", byte, 77);
     report_same("number without a buffer",
-                hendovita_judge_batch_on(table, questions, 40, NULL, 0).number,
+                hendovita_judge_batch_on(table, questions,
+                                         PLAIN_QUESTION_BYTES, NULL, 0).number,
                 1);
 }
 
@@ -339,14 +341,14 @@ static void test_whole_batches(void)
     report_begin("no table: 14 for a batch, 1 before it, and no byte changed");
     draw_begin(&draw, 24);
     for (size_t k = 0; k < MOST; k++)
-        draw_question(&draw, questions + 40 * k);
+        draw_question(&draw, questions + PLAIN_QUESTION_BYTES * k);
     for (size_t i = 0; i < UNKNOWN; i++) {
         every_size(unknown[i]);
         empty(unknown[i]);
     }
     for (uint32_t i = 0; i < 200; i++)
-        judge(any_unknown(&draw), 40 * draw_below(&draw, MOST),
-              sizeof answers);
+        judge(any_unknown(&draw),
+              PLAIN_QUESTION_BYTES * draw_below(&draw, MOST), sizeof answers);
 }
 
 void test_unknown(void)

@@ -2,6 +2,7 @@
  * A walk through the prices, on the ladder and between: each as the order
  * price, and as a close, a nominal or a bid, on each table.
  */
+#include "coded.h"
 #include "on.h"
 #include "report.h"
 #include "tests.h"
@@ -11,11 +12,12 @@ enum { BUY = 1, SELL };
 enum { LIMIT = 1 };
 enum { OPENING = 1, BUY_ONLY = 3 };
 
+/* The security code goes round. */
 static void same_asked(const struct hendovita_question *question)
 {
-    uint8_t bytes[40];
-    hendovita_put_question(bytes, question);
-    report_question("alone", bytes, on_question(bytes, 40),
+    uint8_t bytes[PLAIN_QUESTION_BYTES];
+    coded(bytes, question, 1 + question->price % PLAIN_LAST_CODE);
+    report_question("alone", bytes, on_question(bytes, sizeof bytes),
                     plain_question(bytes));
 }
 

@@ -4,7 +4,7 @@ use mathlib.Core.Logic.{⊎_elim}
 use Prim.Native.Nat.{ℕ, zero, suc, ◌+◌, ◌*◌, ◌≤◌, ◌<◌}
 use native.Mathlib.Nat.{eq-or-lt_of_le, le_of_suc-le-suc}
 use native.Mathlib.Omega.{arith}
-use mathlib.Core.Bool.{Bool, true, false, not, ◌&&◌, cond}
+use mathlib.Core.Bool.{Bool, true, false, not, ◌&&◌, cond, ◌||◌}
 use mathlib.Core.List.{List, ◌++◌, append_assoc}
 use lib.Dec.{T, eqb, leb, ltb, leb→le}
 use lib.ListN.{length, get_or, take, drop, length-drop}
@@ -115,9 +115,13 @@ length_question s k h =
 small_number : (n : ℕ) → T (is_question_number n) → n < number_bound
 small_number n h =
     ⊎_elim
+    (λ below.
+    ⊎_elim
     (λ e. let z : n ≡ 0 = eqb-true n 0 (passed (eqb n 0) e) in omega arith)
     (λ m. let z : n ≤ 10 = leb→le n 10 (and_right (leb 2 n) (leb n 10) m) in omega arith)
-    (or_cases (eqb n 0) (leb 2 n && leb n 10) h)
+    (or_cases (eqb n 0) (leb 2 n && leb n 10) below))
+    (λ e. let z : n ≡ 15 = eqb-true n 15 (passed (eqb n 15) e) in omega arith)
+    (or_cases (eqb n 0 || leb 2 n && leb n 10) (eqb n 15) h)
 
 module _ (t : Table) (wf : T (well_formed t)) (fits : last_price (ladder t) < number_bound) where
   small_price : (p : ℕ) → T (is_ladder_price p t) → p < number_bound

@@ -16,8 +16,8 @@ use Rattle.batch.specs.Record.{answer_bytes, encoded}
 abbrev pub most_questions : ℕ
 most_questions = 1000
 
--- "1: batch not a multiple of 40 bytes, over 1,000 questions, or answer buffer under 12 bytes a question." By the bytes of the batch
--- and of the buffer.
+-- 1: batch not a multiple of a question's bytes, "over 1,000 questions, or answer buffer under 12 bytes a question." By the bytes of the
+-- batch and of the buffer.
 abbrev pub refused : ℕ → ℕ → Bool
 refused asked room = not (eqb (asked % question_bytes) 0) || ltb most_questions (count_of asked) || ltb room (count_of asked * answer_bytes)
 

@@ -20,12 +20,12 @@ use Rattle.rules.specs.declared.Rule.{Rule}
 use Rattle.rules.specs.declared.Rule.TheVariants.{BuyLimit, BuyEnhanced, BuySpecial, SellLimit, SellEnhanced, SellSpecial}
 use Rattle.questions.specs.Missing.{as_reference, least, greatest, price_or}
 use Rattle.little_endian.specs.Numbers.{Bytes}
-use Rattle.questions.specs.Record.{question_bytes, codes_of, references_of, decoded}
-use Rattle.questions.specs.Checks.{any_off}
+use Rattle.questions.specs.Record.{question_bytes, codes_of, references_of, security_code_of, decoded}
+use Rattle.questions.specs.Checks.{bad_security_code, any_off}
 use Rattle.rules.specs.Checks.{disagree, unopposed}
 use Rattle.rules.specs.Rules.{chosen, ask_of, bid_of}
 use Rattle.ranges.specs.declared.Range.{Range}
-use Rattle.ranges.specs.declared.Refusal.TheVariants.{UnknownCode, OffLadder, Disagreement}
+use Rattle.ranges.specs.declared.Refusal.TheVariants.{UnknownCode, BadSecurityCode, OffLadder, Disagreement}
 use Rattle.ranges.specs.Bounds.{from_reference, enhanced_spreads, enhanced_above, enhanced_below, bottom, top}
 use Rattle.ranges.specs.Permitted.{buy_reference, sell_reference, lowest_of, highest_of, nine_fold_reference, range_of}
 use Rattle.ranges.specs.Readings.{Reading, in_order, reading_by, reading_on, reading_of}
@@ -98,13 +98,14 @@ abbrev range : ℕ → ℕ → Reference → Range
 range lowest highest nine = record { lowest = lowest; highest = highest; nine_fold = nine }
 
 -- the reading of codes and references
-abbrev reading : Prices → Percentage → Option Chosen → References → Reading
-reading l percent None r = Err UnknownCode
-reading l percent (Some c) r =
-    in_order (any_off l r) (disagree c.queues r) (unopposed c.rule c.queues)
+abbrev reading : Prices → Percentage → Option Chosen → ℕ → References → Reading
+reading l percent None code r = Err UnknownCode
+reading l percent (Some c) code r =
+    cond (bad_security_code code) (Err BadSecurityCode)
+    (in_order (any_off l r) (disagree c.queues r) (unopposed c.rule c.queues)
     (Ok
     (range (lowest_by l percent c.rule c.queues r) (highest_by l percent c.rule c.queues r)
-    (nine_fold_reference c.queues r.previous_close r.nominal)))
+    (nine_fold_reference c.queues r.previous_close r.nominal))))
 
 -- the answer by a reading: its range worked out, then the number and what is shown
 unfoldable pub shown_by : Prices → ℕ → ℕ → Reference → Shown
@@ -121,11 +122,13 @@ answer_for l (Err refusal) p = refused_answer refusal
 -- what the first part gives of a question
 unfoldable pub prepared_by : Prices → Percentage → Bytes → Prepared
 prepared_by l percent s =
-    cond (eqb (length s) question_bytes) (prepared_reading (reading l percent (chosen (codes_of s) (references_of s)) (references_of s))) (Err WrongLength)
+    cond (eqb (length s) question_bytes)
+    (prepared_reading (reading l percent (chosen (codes_of s) (references_of s)) (security_code_of s) (references_of s)))
+    (Err WrongLength)
 
 -- the answers to a question and to a trade
 abbrev answer : Prices → Percentage → Option Question → Answer
-answer l percent (Some q) = answer_for l (reading l percent (chosen q.codes q.references) q.references) q.price
+answer l percent (Some q) = answer_for l (reading l percent (chosen q.codes q.references) q.codes.security_code q.references) q.price
 answer l percent None = none_shown wrong_length
 
 unfoldable pub judged_by : Prices → Percentage → Bytes → Answer
@@ -186,21 +189,23 @@ module _ (t : Table) (formed : T (well_formed t)) (percent : Percentage) where
   same_highest SellEnhanced q r = ap (price_or (top (ladder t))) (same_high (sell_reference q r.previous_close r.day_high))
   same_highest SellSpecial q r = refl
 
-  same_reading : (choice : Option Chosen) (r : References) → reading_on (ladder t) percent choice r ≡ reading (ladder t) percent choice r
+  same_reading : (choice : Option Chosen) (code : ℕ) (r : References) →
+      reading_on (ladder t) percent choice code r ≡ reading (ladder t) percent choice code r
   unfolding reading_by range_of
-  same_reading None r = refl
-  same_reading (Some c) r = rw (same_lowest c.rule c.queues r, same_highest c.rule c.queues r)
+  same_reading None code r = refl
+  same_reading (Some c) code r = rw (same_lowest c.rule c.queues r, same_highest c.rule c.queues r)
 
   same_answer : (d : Option Question) → answer_decoded (ladder t) percent d ≡ answer (ladder t) percent d
   unfolding reading_of
   same_answer (Some q) =
       let choice = chosen q.codes q.references in
-      rw (same_reading choice q.references) (same_for (ladder t) (reading (ladder t) percent choice q.references) q.price)
+      let code = q.codes.security_code in
+      rw (same_reading choice code q.references) (same_for (ladder t) (reading (ladder t) percent choice code q.references) q.price)
   same_answer None = refl
 
   pub same_prepared : (s : Bytes) → prepared (ladder t) percent s ≡ prepared_by (ladder t) percent s
-  unfolding prepared prepared_by reading_of
-  same_prepared s = rw (same_reading (chosen (codes_of s) (references_of s)) (references_of s)) refl
+  unfolding prepared prepared_by reading_of codes_of
+  same_prepared s = rw (same_reading (chosen (codes_of s) (references_of s)) (security_code_of s) (references_of s)) refl
 
   pub same_judged : (s : Bytes) → judged (ladder t) percent s ≡ judged_by (ladder t) percent s
   unfolding judged judged_by

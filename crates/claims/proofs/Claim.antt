@@ -27,6 +27,7 @@ use Rattle.trades.specs.Trades.{trade_references_of, any_trade_off, trade_verdic
 use Rattle.claims.specs.Worked.{prices, missing, little_endian, mils, Line, order, bytes, low, high, trade, up, down, is, finds, every, right_on, right, lines, Worked}
 use Rattle.claims.specs.OldCloses.{old_lines, OldCloses}
 use Rattle.claims.specs.Slider.{Slide, first_part, second_part, gives, right_slide, slides, Sliders}
+use Rattle.claims.specs.SecurityCodes.{coded_lines, SecurityCodes}
 use Rattle.claims.specs.TableLines.{OnTable, table_lines, right_named, TableLines}
 use Rattle.claims.proofs.Limits.{up_after, down_after, low_by, high_by, up_by, down_by, low_by_lem, high_by_lem}
 use Rattle.claims.proofs.Answers.{shown_by, lowest_by, highest_by, prepared_by, judged_by, trade_judged_by, same_prepared, same_judged, same_trade}
@@ -88,6 +89,16 @@ old_by_places = refl
 
 pub old_closes : OldCloses
 old_closes = same_every right (right_by prices) on_phase1 old_lines ∙ old_by_places
+
+coded_by_places : every (right_by prices) coded_lines ≡ true
+unfolding
+    every coded_lines right_by judged_by lowest_by highest_by shown_by little_endian mils codes_of references_of chosen any_off disagree
+    shown_of verdict_of phase1 ladder band_prices rungs holds first latest_after spread_up spread_down
+    price_at place_from last_after is_outside
+coded_by_places = refl
+
+pub security_codes : SecurityCodes
+security_codes = same_every right (right_by prices) on_phase1 coded_lines ∙ coded_by_places
 
 -- ---- lines on the named tables
 

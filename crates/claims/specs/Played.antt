@@ -1,6 +1,6 @@
 -- A day played by hand: what each event gets, what the day then keeps, and the question that is filled from it. Right or wrong by the
 -- definitions that the calls for C equal. Prices are mils; of them 251 lies between two ladder prices, and 9 below them all.
-use Rattle.std.specs.Prelude.{◌≡◌, ℕ, Bool, true, false, ◌&&◌, List, [], ◌∷◌, eqb, get_or}
+use Rattle.std.specs.Prelude.{◌≡◌, ℕ, Bool, true, false, ◌&&◌, List, [], ◌∷◌, ◌++◌, eqb, get_or}
 use Rattle.questions.specs.Missing.{reference_of}
 use Rattle.questions.specs.Record.{bytes_of}
 use Rattle.daybook.specs.Events.{event}
@@ -9,7 +9,7 @@ use Rattle.dayquestion.specs.declared.Order.{Order}
 use Rattle.dayquestion.specs.Filling.{question_from}
 use Rattle.daynumbers.specs.declared.DayNumbers.{DayNumbers}
 use Rattle.daynumbers.specs.Numbers.{day_from, entered_numbers}
-use Rattle.claims.specs.Worked.{prices, mils}
+use Rattle.claims.specs.Worked.{prices, little_endian, mils}
 
 -- a fresh day with a close, and its number; an event by kind and price, and its number; what the day keeps, and the queue code of a question
 -- that is filled from it
@@ -30,9 +30,9 @@ kept n =
     n.previous_close ∷ n.current_bid ∷ n.current_ask ∷ n.last_bid ∷ n.last_ask ∷ n.lowest_bid ∷ n.highest_bid ∷
     n.lowest_ask ∷ n.highest_ask ∷ n.day_low ∷ n.day_high ∷ []
 
--- an order: special limit sell at 0.027, nominal price 0.029
+-- an order: special limit sell at 0.027, nominal price 0.029, security code 700
 abbrev pub tried : Order
-tried = record { side = 2; order_type = 3; price = 27; nominal = 29 }
+tried = record { side = 2; order_type = 3; price = 27; nominal = 29; security_code = 700 }
 
 -- its question, byte for byte by the paper's layout, where these numbers are kept
 abbrev pub due_bytes : List ℕ → ℕ → List ℕ
@@ -48,7 +48,8 @@ due_bytes due code =
     get_or due 9 0 ∷  -- day low
     get_or due 10 0 ∷  -- day high
     29 ∷  -- nominal price
-    [])
+    []) ++
+    little_endian 4 700  -- security code
 
 -- every step is right, from a day on
 unfoldable pub right_from : DayNumbers → List Step → Bool

@@ -53,9 +53,10 @@ sell_only = 4
 abbrev pub missing : ℕ
 missing = 0
 
--- "byte 3 is zero. Then nine 4-byte little-endian mils": in the paper's order, of which the lines name bid, ask, close and nominal
-abbrev pub question_after : ℕ → ℕ → ℕ → ℕ → ℕ → ℕ → ℕ → ℕ → List ℕ
-question_after close side type queue bid ask nominal price =
+-- "byte 3 is zero. Then nine 4-byte little-endian mils": in the paper's order, of which the lines name bid, ask, close and nominal. Last,
+-- "bytes 40 to 43 hold the security code, little-endian"
+abbrev pub question_for : ℕ → ℕ → ℕ → ℕ → ℕ → ℕ → ℕ → ℕ → ℕ → List ℕ
+question_for security close side type queue bid ask nominal price =
     side ∷ type ∷ queue ∷ 0 ∷
     mils (
     price ∷  -- order price
@@ -67,7 +68,12 @@ question_after close side type queue bid ask nominal price =
     missing ∷  -- day low
     missing ∷  -- day high
     nominal ∷  -- nominal price
-    [])
+    []) ++
+    little_endian 4 security
+
+-- "Document 01's example questions carry code 1."
+abbrev pub question_after : ℕ → ℕ → ℕ → ℕ → ℕ → ℕ → ℕ → ℕ → List ℕ
+question_after = question_for 1
 
 abbrev pub question : ℕ → ℕ → ℕ → ℕ → ℕ → ℕ → ℕ → List ℕ
 question = question_after missing
@@ -140,6 +146,7 @@ lines =
     0 ∷ 0 ∷ 0 ∷ 0 ∷  -- day low
     0 ∷ 0 ∷ 0 ∷ 0 ∷  -- day high
     0 ∷ 0 ∷ 0 ∷ 0 ∷  -- nominal price
+    1 ∷ 0 ∷ 0 ∷ 0 ∷  -- security code 1
     [])
     8 18900 19900 ∷
     -- B: bid 0.495, ask 0.50, limit sell: 0.495 to 0.74

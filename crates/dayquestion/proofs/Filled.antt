@@ -4,7 +4,7 @@ use mathlib.Core.Path.{◌≡◌, refl, sym, ap}
 use Prim.Native.Nat.{ℕ, zero, suc, ◌<◌}
 use native.Mathlib.Omega.{arith}
 use mathlib.Core.Bool.{Bool, true, false, not, cond, ◌&&◌, ◌||◌}
-use lib.Dec.{T, ltb}
+use lib.Dec.{T, ltb, eqb}
 use borrow.Author.Tests.{lt-ltb, ne_eqb, not-false}
 use Rattle.little_endian.specs.Laws.{byte_bound, number_bound}
 use Rattle.facts.proofs.Tests.{and_both, true_of}
@@ -18,8 +18,9 @@ use Rattle.questions.specs.declared.Reference.{Reference}
 use Rattle.questions.specs.declared.Reference.TheVariants.{Missing, Price}
 use Rattle.questions.specs.declared.References.{References}
 use Rattle.questions.specs.declared.Codes.{Codes}
+use Rattle.questions.specs.declared.Question.{Question}
 use Rattle.questions.specs.Missing.{reference_of, present}
-use Rattle.questions.specs.Checks.{is_off, lies_outside, any_off, bad_pair}
+use Rattle.questions.specs.Checks.{bad_security_code, is_off, lies_outside, any_off, bad_pair}
 use Rattle.questions.specs.Record.{bytes_of}
 use Rattle.questions.specs.Laws.{is_writable, Fits}
 use Rattle.questions.proofs.Laws.{question_laws}
@@ -28,7 +29,7 @@ use Rattle.rules.specs.declared.Queues.{Queues}
 use Rattle.rules.specs.Rules.{known_side, known_type, known_queue, unknown_code, rule_of, queues_of, chosen}
 use Rattle.rules.specs.Checks.{disagree, unopposed}
 use Rattle.ranges.specs.declared.Range.{Range}
-use Rattle.ranges.specs.declared.Refusal.TheVariants.{UnknownCode}
+use Rattle.ranges.specs.declared.Refusal.TheVariants.{UnknownCode, BadSecurityCode}
 use Rattle.ranges.specs.Permitted.{range_of}
 use Rattle.ranges.specs.Readings.{in_order, reading_by, reading_on, reading_of}
 use Rattle.judging.specs.declared.Verdict.{Verdict}
@@ -110,34 +111,31 @@ agree Missing Missing Missing (Price b) close low high nominal apart f g pair = 
 
 -- ---- the answer by its number
 
--- what a number tells, where the references do not disagree
-record Tells (unknown off : Bool) (n : ℕ) : Type 0 where
-  never_1 : n ≡ 1 → ⊥
-  two : n ≡ 2 → unknown ≡ true
-  three : n ≡ 3 → off ≡ true
-  never_4 : n ≡ 4 → ⊥
+-- what causes a number, where the references do not disagree: nothing 1 or 4, and 0 and 5 to 10 need no cause
+abbrev cause : (unknown bad off : Bool) → ℕ → Bool
+cause unknown bad off n =
+    cond (eqb n 1 || eqb n 4) false
+    (cond (eqb n 2) unknown
+    (cond (eqb n 15) bad
+    (cond (eqb n 3) off
+    true)))
 
--- a number that is none of 1 to 4 tells nothing
-other : (unknown off : Bool) (n : ℕ) → (n ≡ 1 → ⊥) → (n ≡ 2 → ⊥) → (n ≡ 3 → ⊥) → (n ≡ 4 → ⊥) → Tells unknown off n
-other unknown off n a b c d = record { never_1 = a; two = λ e. absurd (b e); three = λ e. absurd (c e); never_4 = d }
+verdict_caused : (unknown bad off : Bool) (v : Verdict) → cause unknown bad off (verdict_number v) ≡ true
+verdict_caused unknown bad off Accepted = refl
+verdict_caused unknown bad off OutsideLadder = refl
+verdict_caused unknown bad off BetweenPrices = refl
+verdict_caused unknown bad off BelowLowest = refl
+verdict_caused unknown bad off AboveHighest = refl
+verdict_caused unknown bad off NineFold = refl
 
-verdict_tells : (unknown off : Bool) (v : Verdict) → Tells unknown off (verdict_number v)
-verdict_tells u o Accepted = other u o 0 (λ e. omega (arith, e)) (λ e. omega (arith, e)) (λ e. omega (arith, e)) (λ e. omega (arith, e))
-verdict_tells u o OutsideLadder = other u o 6 (λ e. omega (arith, e)) (λ e. omega (arith, e)) (λ e. omega (arith, e)) (λ e. omega (arith, e))
-verdict_tells u o BetweenPrices = other u o 7 (λ e. omega (arith, e)) (λ e. omega (arith, e)) (λ e. omega (arith, e)) (λ e. omega (arith, e))
-verdict_tells u o BelowLowest = other u o 8 (λ e. omega (arith, e)) (λ e. omega (arith, e)) (λ e. omega (arith, e)) (λ e. omega (arith, e))
-verdict_tells u o AboveHighest = other u o 9 (λ e. omega (arith, e)) (λ e. omega (arith, e)) (λ e. omega (arith, e)) (λ e. omega (arith, e))
-verdict_tells u o NineFold = other u o 10 (λ e. omega (arith, e)) (λ e. omega (arith, e)) (λ e. omega (arith, e)) (λ e. omega (arith, e))
-
-number_tells : (l : Prices) (unknown off alone : Bool) (range : Range) (p : ℕ) →
-    Tells unknown off (answer_by l (cond unknown (Err UnknownCode) (in_order off false alone (Ok range))) p).number
-number_tells l true off alone range p =
-    record { never_1 = λ e. omega (arith, e); two = λ e. refl; three = λ e. absurd (omega (arith, e)); never_4 = λ e. omega (arith, e) }
-number_tells l false true alone range p =
-    record { never_1 = λ e. omega (arith, e); two = λ e. absurd (omega (arith, e)); three = λ e. refl; never_4 = λ e. omega (arith, e) }
-number_tells l false false true range p =
-    other false false 5 (λ e. omega (arith, e)) (λ e. omega (arith, e)) (λ e. omega (arith, e)) (λ e. omega (arith, e))
-number_tells l false false false range p = verdict_tells false false (verdict_of l range p)
+number_caused : (l : Prices) (unknown bad off alone : Bool) (range : Range) (p : ℕ) →
+    cause unknown bad off
+    (answer_by l (cond unknown (Err UnknownCode) (cond bad (Err BadSecurityCode) (in_order off false alone (Ok range)))) p).number ≡ true
+number_caused l true bad off alone range p = refl
+number_caused l false true off alone range p = refl
+number_caused l false false true alone range p = refl
+number_caused l false false false true range p = refl
+number_caused l false false false false range p = verdict_caused false false false (verdict_of l range p)
 
 -- the reading of codes and references, check by check
 module _ (l : Prices) (percent : Percentage) (c : Codes) (r : References) where
@@ -147,19 +145,23 @@ module _ (l : Prices) (percent : Percentage) (c : Codes) (r : References) where
   queues : Queues
   queues = queues_of c.queue r
 
-  reading_is : reading_of l percent c r ≡ cond (unknown_code c) (Err UnknownCode) (reading_by l percent rule queues r)
-  unfolding reading_of chosen rule queues
+  bad : Bool
+  bad = bad_security_code c.security_code
+
+  reading_is : reading_of l percent c r ≡ cond (unknown_code c) (Err UnknownCode) (cond bad (Err BadSecurityCode) (reading_by l percent rule queues r))
+  unfolding reading_of chosen rule queues bad
   reading_is = go (unknown_code c)
     where
       go : (unknown : Bool) →
-          reading_on l percent (cond unknown None (Some (record { rule = rule; queues = queues }))) r ≡ cond unknown (Err UnknownCode) (reading_by l percent rule queues r)
+          reading_on l percent (cond unknown None (Some (record { rule = rule; queues = queues }))) c.security_code r ≡
+          cond unknown (Err UnknownCode) (cond bad (Err BadSecurityCode) (reading_by l percent rule queues r))
       go true = refl
       go false = refl
 
-  number_by : (p : ℕ) → disagree queues r ≡ false → Tells (unknown_code c) (any_off l r) (answer_by l (reading_of l percent c r) p).number
+  number_by : (p : ℕ) → disagree queues r ≡ false → cause (unknown_code c) bad (any_off l r) (answer_by l (reading_of l percent c r) p).number ≡ true
   unfolding reading_by
   number_by p agrees =
-      rw (reading_is, agrees) (number_tells l (unknown_code c) (any_off l r) (unopposed rule queues) (range_of l percent rule queues r) p)
+      rw (reading_is, agrees) (number_caused l (unknown_code c) bad (any_off l r) (unopposed rule queues) (range_of l percent rule queues r) p)
 
 -- ---- all of it together
 
@@ -177,6 +179,7 @@ module _ (t : Table) (wf : T (well_formed t)) (small : last_price (ladder t) < n
         order_type = fits.order_type;
         queue = code_fits d;
         byte_3 = omega arith;
+        security_code = fits.security_code;
         price = fits.price;
         current_bid = writable t wf small d.bids.current s.bids.current_on;
         current_ask = writable t wf small d.asks.current s.asks.current_on;
@@ -212,14 +215,20 @@ module _ (t : Table) (wf : T (well_formed t)) (small : last_price (ladder t) < n
       ) at e
 
   pub only_the_caller : (percent : Percentage) → CallersFault t o (judged (ladder t) percent (bytes_of (question_from d o)))
-  unfolding judged queues
+  unfolding judged queues bad
   only_the_caller percent =
-      let q = question_from d o in
-      let tells = number_by (ladder t) percent q.codes q.references q.price agrees in
       rw (question_laws.bytes_decode q its_bytes)
       (record {
-        never_1 = tells.never_1;
-        codes_given = λ e. codes_given (tells.two e);
-        nominal_given = λ e. nominal_given (tells.three e);
-        never_4 = tells.never_4;
+        never_1 = λ e. true≢false (sym (caused 1 e));
+        codes_given = λ e. codes_given (caused 2 e);
+        security_given = caused 15;
+        nominal_given = λ e. nominal_given (caused 3 e);
+        never_4 = λ e. true≢false (sym (caused 4 e));
       })
+    where
+      q : Question
+      q = question_from d o
+
+      caused : (n : ℕ) → (answer_by (ladder t) (reading_of (ladder t) percent q.codes q.references) q.price).number ≡ n →
+          cause (unknown_code q.codes) (bad_security_code q.codes.security_code) (any_off (ladder t) q.references) n ≡ true
+      caused n e = rw (← e) (number_by (ladder t) percent q.codes q.references q.price agrees)

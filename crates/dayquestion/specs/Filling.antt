@@ -1,4 +1,4 @@
--- A question filled from a day: "takes queue code and references from it, the nominal and the rest from the caller". Document 02 (a).
+-- A question filled from a day: "takes queue code and references from it, the nominal and the rest from the caller". Document 02, a and f.
 use Rattle.std.specs.Prelude.{ℕ, Bool, not, cond, ◌||◌, eqb, length, Result, Ok, Err, ⊤}
 use Rattle.little_endian.specs.Numbers.{Bytes}
 use Rattle.questions.specs.declared.References.{References}
@@ -41,7 +41,8 @@ references_from d nominal =
 abbrev pub question_from : Day → Order → Question
 question_from d o =
     record {
-      codes = record { side = o.side; order_type = o.order_type; queue = queue_code_of d; byte_3 = 0 };
+      codes =
+          record { side = o.side; order_type = o.order_type; queue = queue_code_of d; byte_3 = 0; security_code = o.security_code };
       price = o.price;
       references = references_from d o.nominal;
     }

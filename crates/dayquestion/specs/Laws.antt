@@ -9,7 +9,7 @@ use Rattle.limits.specs.declared.Percentage.{Percentage}
 use Rattle.questions.specs.declared.Reference.{Reference}
 use Rattle.questions.specs.declared.Question.{Question}
 use Rattle.questions.specs.Missing.{reference_of, present}
-use Rattle.questions.specs.Checks.{lies_outside}
+use Rattle.questions.specs.Checks.{bad_security_code, lies_outside}
 use Rattle.questions.specs.Record.{bytes_of}
 use Rattle.rules.specs.Rules.{known_side, known_type}
 use Rattle.judging.specs.declared.Answer.{Answer}
@@ -37,6 +37,7 @@ question_by close h o =
             order_type = o.order_type;
             queue = queue_code (any_quote h) (present (current_of Buy h)) (present (current_of Sell h));
             byte_3 = 0;
+            security_code = o.security_code;
           };
       price = o.price;
       references =
@@ -63,11 +64,14 @@ pub record OrderFits (o : Order) : Type 0 where
   pub order_type : o.order_type < byte_bound
   pub price : o.price < number_bound
   pub nominal : o.nominal < number_bound
+  pub security_code : o.security_code < number_bound
 
--- "It never gets 4", nor 1; it gets 2 only for the side or the order type that the caller gave, and 3 only for the nominal.
+-- "It never gets 4", nor 1; it gets 2 only for the side or the order type that the caller gave, 15 only for the security code, and 3 only for
+-- the nominal.
 pub record CallersFault (t : Table) (o : Order) (a : Answer) : Type 0 where
   pub never_1 : a.number ≡ 1 → ⊥
   pub codes_given : a.number ≡ 2 → (known_side o.side && known_type o.order_type) ≡ false
+  pub security_given : a.number ≡ 15 → bad_security_code o.security_code ≡ true
   pub nominal_given : a.number ≡ 3 → lies_outside (ladder t) (reference_of o.nominal) ≡ true
   pub never_4 : a.number ≡ 4 → ⊥
 

@@ -16,6 +16,7 @@ pub struct Order {
     pub order_type: u8,
     pub price: u32,
     pub nominal: u32,
+    pub security_code: u32,
 }
 
 // The question of an order, filled from a day. The day may be any.
@@ -27,6 +28,7 @@ pub fn question(day: Day, order: Order) -> Question
         order_type: order.order_type,
         queue: filling::queue_code_of(day),
         byte_3: 0,
+        security_code: order.security_code,
     };
     let references = filling::references_from(day, order.nominal);
     Question {

@@ -57,7 +57,7 @@ pub struct BandFound {
     pub index: u32,
 }
 
-// The answer to one question of 40 bytes; to any other number of bytes 1, with 0 and 0.
+// The answer to one question; bytes of any other length get 1, with 0 and 0.
 #[unsafe(no_mangle)]
 pub extern "C" fn hendovita_judge_question(question: &[u8]) -> Answer
     ensures { result ≡ judged usual_ladder five_percent question.now }
@@ -73,8 +73,8 @@ pub extern "C" fn hendovita_judge_question_on(table: u32, question: &[u8]) -> An
     judging::judge_on(table, question)
 }
 
-// The first part of a question of 40 bytes, which does not look at its order price: 0 with the permitted range and the nine-fold reference, or 2
-// to 5 with zeros; to any other number of bytes 1 with zeros.
+// The first part of a question, which does not look at its order price: 0 with the permitted range and the nine-fold reference, or 2 to 5
+// or 15 with zeros; bytes of any other length get 1 with zeros.
 #[unsafe(no_mangle)]
 pub extern "C" fn hendovita_prepare(question: &[u8]) -> PreparedNumbers
     ensures { result ≡ prepared_numbers (prepared usual_ladder five_percent question.now) }
@@ -323,16 +323,18 @@ pub extern "C" fn hendovita_fill_question(
     order_type: u8,
     price: u32,
     nominal: u32,
+    security_code: u32,
     question: &mut [u8],
 ) -> u32
     ensures number { result ≡ fill_number question.old }
-    ensures question { question.new ≡ filled (day_from day) (record { side = side; order_type = order_type; price = price; nominal = nominal }) question.old }
+    ensures question { question.new ≡ filled (day_from day) (record { side = side; order_type = order_type; price = price; nominal = nominal; security_code = security_code }) question.old }
 {
     let order = Order {
         side,
         order_type,
         price,
         nominal,
+        security_code,
     };
     match dayquestion::fill(Day::from(day), order, question) {
         Ok(()) => 0,

@@ -23,7 +23,7 @@ use Rattle.limits.specs.Limits.{five_percent}
 use Rattle.limits.specs.Terms.{terms_on}
 use Rattle.questions.specs.Record.{question_bytes, codes_of, price_of, references_of, decoded}
 use Rattle.ranges.specs.declared.Range.{Range}
-use Rattle.ranges.specs.declared.Refusal.TheVariants.{UnknownCode, OffLadder, Disagreement, NoOpposite}
+use Rattle.ranges.specs.declared.Refusal.TheVariants.{UnknownCode, BadSecurityCode, OffLadder, Disagreement, NoOpposite}
 use Rattle.questions.specs.declared.Question.{Question}
 use Rattle.ranges.specs.Readings.{Reading, reading_of}
 use Rattle.preparing.specs.Prepared.{Prepared, prepared}
@@ -35,7 +35,7 @@ use Rattle.judging.specs.Shown.{is_shown, shown_of}
 use Rattle.judging.specs.Verdicts.{verdict_of}
 use Rattle.judging.specs.Numbers.{verdict_number}
 use Rattle.judging.specs.Answers.{none_shown, answer_on, answer_by, answer_decoded, prepared_judged_by, then_judged, judged, judged_by}
-use Rattle.judging.specs.Laws.{LadderRange, RangeOrNone, SameRange, AnyOrderPrice, AnyRange, JudgedOnTable, AnyRangeOnTable, AnyOrderPriceOn, is_question_number, is_refusal, QuestionNumbers, JudgingLaws}
+use Rattle.judging.specs.Laws.{LadderRange, RangeOrNone, SameRange, AnyOrderPrice, SecurityAltersNoAnswer, AnyRange, JudgedOnTable, AnyRangeOnTable, AnyOrderPriceOn, is_question_number, is_refusal, QuestionNumbers, JudgingLaws}
 use Rattle.judging.proofs.Windows.{over_zero}
 use Rattle.judging.proofs.Parts.{both_parts, not_judged}
 use Rattle.judging.proofs.Acceptance.{shown_is_exactly, from_lowest_to_highest, accepts, judged_number}
@@ -94,7 +94,7 @@ any_range t wf range p =
 
 -- ---- any order price
 
--- a question of 40 bytes is answered by its reading
+-- a question is answered by its reading
 by_reading : (l : List ℕ) (percent : Percentage) (s : List ℕ) → length s ≡ question_bytes →
     judged l percent s ≡ answer_by l (reading_of l percent (codes_of s) (references_of s)) (price_of s)
 unfolding judged
@@ -142,6 +142,18 @@ any_order_price t wf percent s u ns nu same h =
             (is_ladder_price p t && leb (judged (ladder t) percent s).lowest p && leb p (judged (ladder t) percent s).highest)
         accepted = rw (a, b) (accepts t wf range p ∙ from_lowest_to_highest t wf range p)
 
+-- ---- any good security code
+
+security_alters_no_answer : SecurityAltersNoAnswer
+security_alters_no_answer found s u n same =
+    both_parts.by_numbers found s ∙
+    rw (preparing_laws.security_alters_no_range found s u n same, same_price) (sym (both_parts.by_numbers found u))
+  where
+    same_price : price_of s ≡ price_of u
+    same_price =
+        let bytes = same.same in
+        rw (bytes.before 4 (omega arith), bytes.before 5 (omega arith), bytes.before 6 (omega arith), bytes.before 7 (omega arith))
+
 -- ---- on a table by its number
 
 judged_on_table : JudgedOnTable
@@ -178,7 +190,7 @@ any_order_price_on n s u ns nu same h = go (unknown_table n) refl
 
 -- ---- numbers
 
--- 0 or 2 to 10, by every reading
+-- 0, 2 to 10 or 15, by every reading
 by_any_reading : (l : List ℕ) (reading : Reading) (p : ℕ) → T (is_question_number (answer_by l reading p).number)
 by_any_reading l (Ok range) p = go (verdict_of l range p)
   where
@@ -190,11 +202,12 @@ by_any_reading l (Ok range) p = go (verdict_of l range p)
     go AboveHighest = tt
     go NineFold = tt
 by_any_reading l (Err UnknownCode) p = tt
+by_any_reading l (Err BadSecurityCode) p = tt
 by_any_reading l (Err OffLadder) p = tt
 by_any_reading l (Err Disagreement) p = tt
 by_any_reading l (Err NoOpposite) p = tt
 
--- 1 to 5 show 0 and 0
+-- 1 to 5 and 15 show 0 and 0
 refusal_shows_none : (l : List ℕ) (reading : Reading) (p : ℕ) → T (is_refusal (answer_by l reading p).number) →
     answer_by l reading p ≡ none_shown (answer_by l reading p).number
 refusal_shows_none l (Ok range) p h = absurd (go (verdict_of l range p) h)
@@ -233,6 +246,7 @@ judging_laws =
       both_parts = both_parts;
       any_range = any_range;
       any_order_price = any_order_price;
+      security_alters_no_answer = security_alters_no_answer;
       judged_on_table = judged_on_table;
       any_range_on_table = any_range_on_table;
       any_order_price_on = any_order_price_on;

@@ -13,7 +13,7 @@ use Rattle.limits.specs.declared.terms.BadTerms.TheVariants.{UnknownTable}
 use Rattle.limits.specs.Terms.{Found, bad_terms_number}
 use Rattle.questions.specs.Record.{question_bytes, price_byte, codes_of, price_of, references_of, question_of}
 use Rattle.ranges.specs.declared.Range.{Range}
-use Rattle.ranges.specs.declared.Refusal.TheVariants.{UnknownCode, OffLadder, Disagreement, NoOpposite}
+use Rattle.ranges.specs.declared.Refusal.TheVariants.{UnknownCode, BadSecurityCode, OffLadder, Disagreement, NoOpposite}
 use Rattle.ranges.specs.Readings.{Reading, reading_of}
 use Rattle.preparing.specs.declared.Unprepared.{Unprepared}
 use Rattle.preparing.specs.declared.Unprepared.TheVariants.{WrongLength, WithBadTerms, Refused}
@@ -49,6 +49,7 @@ both_parts =
     told found WrongLength p = refl
     told found (WithBadTerms UnknownTable) p = refl
     told found (Refused UnknownCode) p = refl
+    told found (Refused BadSecurityCode) p = refl
     told found (Refused OffLadder) p = refl
     told found (Refused Disagreement) p = refl
     told found (Refused NoOpposite) p = refl
@@ -75,6 +76,7 @@ pub not_judged : (why : Unprepared) → T (not_refused (unprepared_number why)) 
 not_judged WrongLength h = h
 not_judged (WithBadTerms UnknownTable) h = h
 not_judged (Refused UnknownCode) h = h
+not_judged (Refused BadSecurityCode) h = h
 not_judged (Refused OffLadder) h = h
 not_judged (Refused Disagreement) h = h
 not_judged (Refused NoOpposite) h = h

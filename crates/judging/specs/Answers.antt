@@ -1,4 +1,5 @@
--- The answer to a question: number, lowest and highest. Document 01, "Question and answer" and "Why a question comes back".
+-- The answer to a question: number, lowest and highest. Document 01, "Question and answer" and "Why a question comes back"; document 02, e
+-- and f.
 use Rattle.std.specs.Prelude.{ℕ, List, ◌++◌, cond, eqb, length, codes, decimal, Option, Some, None, Ok, Err}
 use Rattle.ladder.specs.Ladder.{Prices}
 use Rattle.limits.specs.declared.Percentage.{Percentage}
@@ -18,7 +19,7 @@ use Rattle.judging.specs.Shown.{shown_of}
 use Rattle.judging.specs.Verdicts.{verdict_of}
 use Rattle.judging.specs.Numbers.{verdict_number}
 
--- "Answers 2 to 5 show 0 and 0: a question refused for its codes or references has no range."
+-- "Answers 2 to 5 show 0 and 0: a question refused for its codes or references has no range." 15 too is "shown with 0 and 0"
 abbrev pub none_shown : ℕ → Answer
 none_shown n = record { number = n; lowest = 0; highest = 0 }
 

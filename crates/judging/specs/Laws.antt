@@ -13,7 +13,7 @@ use Rattle.questions.specs.Record.{question_bytes, price_of}
 use Rattle.ranges.specs.declared.Range.{Range}
 use Rattle.preparing.specs.Prepared.{prepared, prepared_by}
 use Rattle.preparing.specs.Numbers.{wrong_length, prepared_numbers}
-use Rattle.preparing.specs.Laws.{SameButPrice}
+use Rattle.preparing.specs.Laws.{SameButPrice, SameButSecurity}
 use Rattle.judging.specs.declared.Answer.{Answer}
 use Rattle.judging.specs.Shown.{is_shown, shown_of}
 use Rattle.judging.specs.Answers.{none_shown, answer_on, prepared_judged_by, then_judged, numbers_judged, judged, judged_by}
@@ -59,6 +59,12 @@ AnyOrderPrice =
     (t : Table) → T (well_formed t) → (percent : Percentage) (s u : Bytes) → length s ≡ question_bytes → length u ≡ question_bytes →
     SameButPrice s u → T (not_refused (judged (ladder t) percent s).number) →
     SameRange t (judged (ladder t) percent s) (judged (ladder t) percent u) (price_of u)
+
+-- "The code never alters a verdict that gets past its check": two questions that differ in their security codes only, both good, get the same
+-- answer, whatever a call names.
+abbrev pub SecurityAltersNoAnswer : Type 0
+SecurityAltersNoAnswer =
+    (found : Found) (s u : Bytes) → length s ≡ length u → SameButSecurity s u → judged_by found s ≡ judged_by found u
 
 -- ---- by two parts
 
@@ -113,14 +119,14 @@ AnyOrderPriceOn =
 
 -- ---- numbers
 
--- 0 and 2 to 10; 1 to 5
+-- 0, 2 to 10 and 15; 1 to 5 and 15
 abbrev pub is_question_number : ℕ → Bool
-is_question_number n = eqb n 0 || leb 2 n && leb n 10
+is_question_number n = eqb n 0 || leb 2 n && leb n 10 || eqb n 15
 
 abbrev pub is_refusal : ℕ → Bool
-is_refusal n = leb 1 n && leb n 5
+is_refusal n = leb 1 n && leb n 5 || eqb n 15
 
--- The numbers that a question can get: 0 and 2 to 10 with 40 bytes, and else 1; 1 to 5 show 0 and 0.
+-- The numbers that a question can get: 0, 2 to 10 and 15 with as many bytes as a question has, and else 1; 1 to 5 and 15 show 0 and 0.
 pub record Numbers (a : Answer) (s : Bytes) : Type 0 where
   pub of_a_question : length s ≡ question_bytes → T (is_question_number a.number)
   pub of_other_bytes : (length s ≡ question_bytes → ⊥) → a ≡ none_shown wrong_length
@@ -135,6 +141,7 @@ pub record JudgingLaws : Type 0 where
   pub shown_is_exactly : ShownIsExactly
   pub range_or_none : RangeOrNone
   pub any_order_price : AnyOrderPrice
+  pub security_alters_no_answer : SecurityAltersNoAnswer
   pub both_parts : BothParts
   pub any_range : AnyRange
   pub judged_on_table : JudgedOnTable

@@ -52,15 +52,15 @@ pub struct Answer {
     pub highest: u32,
 }
 
-// The answer to a question of 40 bytes on the table that a number names; 14, with 0 and 0, where it names none. To any other number of bytes 1,
-// with 0 and 0.
+// The answer to a question on the table that a number names; 14, with 0 and 0, where it names none. Bytes of any other length get 1, with 0
+// and 0.
 pub fn judge_on(table: u32, question: &[u8]) -> Answer
     ensures { result ≡ judged_by (terms_on table) question.now }
 {
     answers::judge_by(&terms_on(table), question)
 }
 
-// The answer to a question of 40 bytes; to any other number of bytes 1, with 0 and 0.
+// The answer to a question; bytes of any other length get 1, with 0 and 0.
 #[tactic(auto, using(crate::proofs::Laws::usual))]
 pub fn judge(question: &[u8]) -> Answer
     ensures { result ≡ judged usual_ladder five_percent question.now }

@@ -4,11 +4,11 @@ use Rattle.questions.specs.declared.Reference.TheVariants.{Missing}
 use Rattle.questions.specs.declared.Question.{Question}
 use Rattle.orders.specs.declared.Order.{Order}
 
--- an order by its codes, with every reference missing
+-- an order by its codes, with every reference missing and security code 1
 abbrev pub bare : ℕ → ℕ → ℕ → Order
 bare side order_type queue =
     record {
-      codes = record { side = side; order_type = order_type; queue = queue; byte_3 = 0 };
+      codes = record { side = side; order_type = order_type; queue = queue; byte_3 = 0; security_code = 1 };
       references =
           record {
             current_bid = Missing;

@@ -17,7 +17,7 @@ pub struct Order {
 
 // Prices are mils; a price of 0 makes the reference missing.
 impl Order {
-    // With no reference.
+    // With no reference, and security code 1.
     pub fn new(side: u8, order_type: u8, queue: u8) -> Order
         ensures { result ≡ bare side order_type queue }
     {
@@ -27,9 +27,21 @@ impl Order {
                 order_type,
                 queue,
                 byte_3: 0,
+                security_code: 1,
             },
             references: References::default(),
         }
+    }
+
+    // With this security code.
+    pub fn security(self, code: u32) -> Order
+        ensures { result ≡ record self { codes = record self.codes { security_code = code } } }
+    {
+        let codes = Codes {
+            security_code: code,
+            ..self.codes
+        };
+        Order { codes, ..self }
     }
 
     // With this bid and ask.

@@ -11,7 +11,7 @@ use lib.Seq.{take-append-le, drop-append-le, drop-append-add, drop_at, drop-leng
 use Rattle.text.specs.Decimal.{Text}
 use Rattle.text.specs.Ending.{ending_at}
 use Rattle.limits.specs.declared.Percentage.{Percentage}
-use Rattle.questions.specs.Record.{question_bytes, count_of, question_at}
+use Rattle.questions.specs.Record.{question_bytes, count_of, question_at, security_code_of}
 use Rattle.judging.specs.Answers.{judged}
 use Rattle.pages.specs.Lines.{line, lines_to, left_line, page}
 use Rattle.pages.specs.Pages.{StandsFrom, page_refused}
@@ -43,7 +43,8 @@ module _ (l : List ℕ) (percent : Percentage) (first : ℕ) (s t : List ℕ) wh
   lines_join n zero h = rw (add-zero n) (lines_before n (omega (arith, h)) ∙ sym (append-nil (lines_to l percent first n s)))
   lines_join n (suc k) h =
       rw (add-suc n k, lines_join n k h, question_after s t n k h, add_assoc first n k)
-      (append_assoc (lines_to l percent first n s) (lines_to l percent (first + n) k t) (line (first + (n + k)) (judged l percent (question_at k t))))
+      (append_assoc (lines_to l percent first n s) (lines_to l percent (first + n) k t)
+      (line (first + (n + k)) (judged l percent (question_at k t)) (security_code_of (question_at k t))))
 
 pages_join : PagesJoin
 unfolding left_line

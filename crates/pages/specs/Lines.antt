@@ -1,4 +1,4 @@
--- The lines of pricecheck. Document 01, "Prices worked out".
+-- The lines of pricecheck. Document 01, "Prices worked out"; document 02, f.
 use Rattle.std.specs.Prelude.{ℕ, zero, suc, ◌+◌, ◌%◌, [], ◌∷◌, ◌++◌, length}
 use Rattle.text.specs.Decimal.{Text, field}
 use Rattle.ladder.specs.Ladder.{Prices}
@@ -6,7 +6,7 @@ use Rattle.limits.specs.declared.Percentage.{Percentage}
 use Rattle.limits.specs.declared.terms.BadTerms.{BadTerms}
 use Rattle.limits.specs.Terms.{bad_terms_number}
 use Rattle.little_endian.specs.Numbers.{Bytes}
-use Rattle.questions.specs.Record.{question_bytes, count_of, question_at}
+use Rattle.questions.specs.Record.{question_bytes, count_of, question_at, security_code_of}
 use Rattle.judging.specs.declared.Answer.{Answer}
 use Rattle.judging.specs.Answers.{judged}
 
@@ -17,16 +17,18 @@ blank = 32
 abbrev pub newline : ℕ
 newline = 10
 
--- "one line each: question number from 1, answer number, lowest, highest, in decimal mils with single blanks"
-unfoldable pub line : ℕ → Answer → Text
-line n a = field n blank ++ field a.number blank ++ field a.lowest blank ++ field a.highest newline
+-- "one line each: question number from 1, answer number, lowest, highest, in decimal mils with single blanks", and "the code, as read, as a
+-- fifth number"
+unfoldable pub line : ℕ → Answer → ℕ → Text
+line n a code = field n blank ++ field a.number blank ++ field a.lowest blank ++ field a.highest blank ++ field code newline
 
 -- the lines of the first n questions, of which the first has the number `first`
 unfoldable pub lines_to : Prices → Percentage → ℕ → ℕ → Bytes → Text
 lines_to l percent first zero s = []
-lines_to l percent first (suc n) s = lines_to l percent first n s ++ line (first + n) (judged l percent (question_at n s))
+lines_to l percent first (suc n) s =
+    lines_to l percent first n s ++ line (first + n) (judged l percent (question_at n s)) (security_code_of (question_at n s))
 
--- "Left-over bytes k (1 to 39) give a last line "left k"."
+-- "Left-over bytes k .. give a last line "left k"": k is 1 to 43
 unfoldable pub left_line : ℕ → Text
 left_line zero = []
 left_line (suc k) = (108 ∷ 101 ∷ 102 ∷ 116 ∷ blank ∷ []) ++ field (suc k) newline

@@ -8,11 +8,11 @@ use Rattle.little_endian.specs.Numbers.{Bytes}
 use Rattle.questions.specs.Record.{count_of}
 use Rattle.pages.specs.Lines.{page}
 
--- the characters that a line may have: a question number of 20 digits, three numbers of 10, and one after each
+-- the characters that a line may have: a question number of 20 digits, four numbers of 10, and one after each
 abbrev pub line_room : ℕ
-line_room = 54
+line_room = 65
 
--- the characters that the last line may have: "left 39", and one after it
+-- the characters that the last line may have: "left 43", and one after it
 abbrev pub left_room : ℕ
 left_room = 8
 

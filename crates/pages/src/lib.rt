@@ -5,6 +5,6 @@
 pub mod lines; // lines.rt: the lines, from the last to the first
 
 // How many characters a line may have, and the line of the bytes that are left over.
-pub const LINE_ROOM: usize = 54;
+pub const LINE_ROOM: usize = 65;
 
 pub const LEFT_ROOM: usize = 8;

@@ -11,16 +11,18 @@ use judging::Answer;
 use judging::answers::judge as judge_question;
 use limits::terms::{BadTerms, Terms};
 use questions::QUESTION_BYTES;
+use questions::decoding::security_code_of;
 use text::Filling;
 
-// Writes the line of one question.
+// Writes the line of one question, with its security code.
 #[tactic(auto, using(crate::proofs::Lengths::number_fits, crate::proofs::Lengths::price_fits))]
-fn put_line(text: &mut Filling, number: u64, answer: Answer)
+fn put_line(text: &mut Filling, number: u64, answer: Answer, code: u32)
     requires { line_room ≤ text.old.start }
-    ensures line { Written (line number answer) text.old text.new }
+    ensures line { Written (line number answer code) text.old text.new }
     ensures room { text.old.start ≤ text.new.start + line_room }
 {
-    text.put_field(u64::from(answer.highest), b'\n');
+    text.put_field(u64::from(code), b'\n');
+    text.put_field(u64::from(answer.highest), b' ');
     text.put_field(u64::from(answer.lowest), b' ');
     text.put_field(u64::from(answer.number), b' ');
     text.put_field(number, b' ');
@@ -35,8 +37,9 @@ fn put_lines(terms: &Terms, questions: &[u8], count: usize, first: u64, text: &m
 {
     for k in (0..count).rev() {
         let start = k * QUESTION_BYTES;
-        let answer = judge_question(terms, &questions[start..start + QUESTION_BYTES]);
-        put_line(text, first + k as u64, answer);
+        let question = &questions[start..start + QUESTION_BYTES];
+        let answer = judge_question(terms, question);
+        put_line(text, first + k as u64, answer, security_code_of(question));
     }
 }
 

@@ -20,14 +20,14 @@ use Rattle.questions.specs.declared.Codes.{Codes}
 use Rattle.questions.specs.declared.References.{References}
 use Rattle.questions.specs.Missing.{reference_of, number_of}
 use Rattle.questions.specs.Record.{question_bytes, codes_of, references_of}
-use Rattle.questions.specs.Checks.{any_off}
+use Rattle.questions.specs.Checks.{bad_security_code, any_off}
 use Rattle.rules.specs.declared.Rule.{Rule}
 use Rattle.rules.specs.declared.Queues.{Queues}
 use Rattle.rules.specs.declared.Queues.TheVariants.{Opening, Both, BuyOnly, SellOnly, Neither}
 use Rattle.rules.specs.Rules.{unknown_code, rule_of, queues_of, chosen}
 use Rattle.rules.specs.Checks.{disagree, unopposed}
 use Rattle.ranges.specs.declared.Range.{Range}
-use Rattle.ranges.specs.declared.Refusal.TheVariants.{UnknownCode, OffLadder, Disagreement, NoOpposite}
+use Rattle.ranges.specs.declared.Refusal.TheVariants.{UnknownCode, BadSecurityCode, OffLadder, Disagreement, NoOpposite}
 use Rattle.ranges.specs.Permitted.{nine_fold_reference, range_of}
 use Rattle.ranges.specs.Readings.{Reading, in_order, reading_by, reading_on, reading_of}
 use Rattle.ranges.proofs.Laws.{range_laws}
@@ -35,13 +35,18 @@ use Rattle.preparing.specs.declared.Unprepared.{Unprepared}
 use Rattle.preparing.specs.declared.Unprepared.TheVariants.{WrongLength, Refused}
 use Rattle.preparing.specs.Prepared.{Prepared, prepared_reading, prepared, prepared_by}
 use Rattle.preparing.specs.Numbers.{wrong_length, none_prepared, prepared_numbers}
-use Rattle.preparing.specs.Laws.{is_first_number, PriceNotLookedAt, NumbersLoseNothing, PreparedOnLadder, FirstNumbers, PreparedOnTable, PreparingLaws}
-use Rattle.preparing.proofs.Fields.{same_codes, same_references}
+use Rattle.preparing.specs.Laws.{is_first_number, PriceNotLookedAt, SecurityAltersNoRange, NumbersLoseNothing, PreparedOnLadder, FirstNumbers, PreparedOnTable, PreparingLaws}
+use Rattle.preparing.proofs.Fields.{but_price, but_security}
 
 price_not_looked_at : PriceNotLookedAt
 unfolding prepared
-price_not_looked_at (Ok basis) s u n same = rw (n, same_codes s u same, same_references s u same)
+price_not_looked_at (Ok basis) s u n same = rw (n, but_price basis.prices basis.percentage s u same)
 price_not_looked_at (Err bad) s u n same = rw n
+
+security_alters_no_range : SecurityAltersNoRange
+unfolding prepared
+security_alters_no_range (Ok basis) s u n same = rw (n, but_security basis.prices basis.percentage s u same)
+security_alters_no_range (Err bad) s u n same = rw n
 
 -- a reference read from a number is what its number stands for
 read_again : (n : ℕ) → reference_of (number_of (reference_of n)) ≡ reference_of n
@@ -87,16 +92,18 @@ every_reading : (P : Range → Type 0) (l : List ℕ) (percent : Percentage) (c 
 unfolding reading_of reading_by chosen HoldsOf
 every_reading P l percent c r h = by_codes (unknown_code c) (rule_of c.side c.order_type) (queues_of c.queue r)
   where
-    by_checks : (off disagrees alone : Bool) (range : Range) → P range → HoldsOf P (in_order off disagrees alone (Ok range))
-    by_checks true disagrees alone range k = tt
-    by_checks false true alone range k = tt
-    by_checks false false true range k = tt
-    by_checks false false false range k = k
+    by_checks : (bad off disagrees alone : Bool) (range : Range) → P range →
+        HoldsOf P (cond bad (Err BadSecurityCode) (in_order off disagrees alone (Ok range)))
+    by_checks true off disagrees alone range k = tt
+    by_checks false true disagrees alone range k = tt
+    by_checks false false true alone range k = tt
+    by_checks false false false true range k = tt
+    by_checks false false false false range k = k
 
     by_codes : (unknown : Bool) (rule : Rule) (q : Queues) →
-        HoldsOf P (reading_on l percent (cond unknown None (Some (record { rule = rule; queues = q }))) r)
+        HoldsOf P (reading_on l percent (cond unknown None (Some (record { rule = rule; queues = q }))) c.security_code r)
     by_codes true rule q = tt
-    by_codes false rule q = by_checks (any_off l r) (disagree q r) (unopposed rule q) _ (h rule q)
+    by_codes false rule q = by_checks (bad_security_code c.security_code) (any_off l r) (disagree q r) (unopposed rule q) _ (h rule q)
 
 -- a nine-fold reference is the previous close or the nominal, each of which was read from a number
 numbers_lose_nothing : NumbersLoseNothing
@@ -130,6 +137,7 @@ first_numbers l percent s =
     known : (reading : Reading) → T (is_first_number (prepared_numbers (prepared_reading reading)).number)
     known (Ok range) = tt
     known (Err UnknownCode) = tt
+    known (Err BadSecurityCode) = tt
     known (Err OffLadder) = tt
     known (Err Disagreement) = tt
     known (Err NoOpposite) = tt
@@ -169,6 +177,7 @@ pub preparing_laws : PreparingLaws
 preparing_laws =
     record {
       price_not_looked_at = price_not_looked_at;
+      security_alters_no_range = security_alters_no_range;
       numbers_lose_nothing = numbers_lose_nothing;
       prepared_on_ladder = prepared_on_ladder;
       first_numbers = first_numbers;

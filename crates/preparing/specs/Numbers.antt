@@ -1,10 +1,11 @@
--- The number of why a question has no range, and what the first part gives as plain numbers. Document 01, "Why a question comes back".
+-- The number of why a question has no range, and what the first part gives as plain numbers. Document 01, "Why a question comes back";
+-- document 02, f.
 use Rattle.std.specs.Prelude.{ℕ, Ok, Err}
 use Rattle.limits.specs.Terms.{bad_terms_number}
 use Rattle.questions.specs.Missing.{reference_of, number_of}
 use Rattle.ranges.specs.declared.Range.{Range}
 use Rattle.ranges.specs.declared.Refusal.{Refusal}
-use Rattle.ranges.specs.declared.Refusal.TheVariants.{UnknownCode, OffLadder, Disagreement, NoOpposite}
+use Rattle.ranges.specs.declared.Refusal.TheVariants.{UnknownCode, BadSecurityCode, OffLadder, Disagreement, NoOpposite}
 use Rattle.preparing.specs.declared.Unprepared.{Unprepared}
 use Rattle.preparing.specs.declared.Unprepared.TheVariants.{WrongLength, WithBadTerms, Refused}
 use Rattle.preparing.specs.declared.PreparedNumbers.{PreparedNumbers}
@@ -14,9 +15,10 @@ use Rattle.preparing.specs.Prepared.{Prepared}
 abbrev pub wrong_length : ℕ
 wrong_length = 1
 
--- the calling program: 2; the reference feed: 3 and 4; the client who enters the order: 5
+-- the calling program: 2 and 15; the reference feed: 3 and 4; the client who enters the order: 5
 abbrev pub refusal_number : Refusal → ℕ
 refusal_number UnknownCode = 2
+refusal_number BadSecurityCode = 15
 refusal_number OffLadder = 3
 refusal_number Disagreement = 4
 refusal_number NoOpposite = 5

@@ -1,5 +1,5 @@
 -- The first part of judging. "The first part takes a question without its order price and gives its permitted range with its nine-fold reference, or
--- one of 2 to 5." Document 02, e.
+-- one of 2 to 5", or 15. Document 02, e and f.
 use Rattle.std.specs.Prelude.{cond, eqb, length, Result, Ok, Err}
 use Rattle.ladder.specs.Ladder.{Prices}
 use Rattle.limits.specs.declared.Percentage.{Percentage}

@@ -26,7 +26,7 @@ pub enum Unprepared {
     WrongLength,
     // By the terms that the call names.
     WithBadTerms(BadTerms),
-    // By its codes or its references.
+    // By its codes, the security code among them, or its references.
     Refused(Refusal),
 }
 
@@ -44,7 +44,7 @@ pub struct PreparedNumbers {
     pub nine_fold: u32,
 }
 
-// The first part of a question of 40 bytes, on the table that a number names. What it gives does not depend on the order price.
+// The first part of a question, on the table that a number names. What it gives does not depend on the order price.
 pub fn prepare_on(table: u32, question: &[u8]) -> Prepared
     ensures { result ≡ prepared_by (terms_on table) question.now }
 {

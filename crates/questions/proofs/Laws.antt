@@ -46,6 +46,7 @@ bytes_decode q fits =
       reference_back q.references.day_low fits.day_low,
       reference_back q.references.day_high fits.day_high,
       reference_back q.references.nominal fits.nominal,
+      number_laws.number_reads_back q.codes.security_code fits.security_code,
     )
 
 byte_fits : (x : ℕ) → ltb (x % 256) byte_bound ≡ true

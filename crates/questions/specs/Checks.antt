@@ -1,6 +1,6 @@
--- Check 3, by the reference feed; and pairs of a low and a high, which check 4 looks at (rules/specs/Checks.antt). Document 01, "Why a question
--- comes back"; document 02, b.
-use Rattle.std.specs.Prelude.{Bool, false, not, cond, ◌||◌}
+-- Check 15, by the calling program; check 3, by the reference feed; and pairs of a low and a high, which check 4 looks at
+-- (rules/specs/Checks.antt). Document 01, "Why a question comes back"; document 02, b and f.
+use Rattle.std.specs.Prelude.{ℕ, Bool, false, not, cond, ◌&&◌, ◌||◌, leb}
 use Rattle.ladder.specs.Ladder.{Prices}
 use Rattle.ladder.specs.Places.{is_outside}
 use Rattle.facts.specs.Lists.{holds}
@@ -8,6 +8,13 @@ use Rattle.questions.specs.declared.Reference.{Reference}
 use Rattle.questions.specs.declared.Reference.TheVariants.{Missing, Price}
 use Rattle.questions.specs.declared.References.{References}
 use Rattle.questions.specs.Missing.{present, is_below}
+
+-- The calling program. 15: "code outside 1 to 99999"
+abbrev pub last_security_code : ℕ
+last_security_code = 99999
+
+abbrev pub bad_security_code : ℕ → Bool
+bad_security_code code = not (leb 1 code && leb code last_security_code)
 
 -- one without the other
 abbrev pub differ : Bool → Bool → Bool

@@ -23,6 +23,7 @@ pub record Fits (q : Question) : Type 0 where
   pub order_type : q.codes.order_type < byte_bound
   pub queue : q.codes.queue < byte_bound
   pub byte_3 : q.codes.byte_3 < byte_bound
+  pub security_code : q.codes.security_code < number_bound
   pub price : q.price < number_bound
   pub current_bid : T (is_writable q.references.current_bid)
   pub current_ask : T (is_writable q.references.current_ask)

@@ -1,4 +1,4 @@
--- A question from its 40 bytes, and its bytes. Document 01, "Question and answer".
+-- A question from its bytes, and its bytes. Document 01, "Question and answer"; document 02, f.
 use Rattle.std.specs.Prelude.{ℕ, ◌*◌, ◌/◌, cond, [], ◌∷◌, ◌++◌, eqb, length, get_or, take, drop, Option, Some, None}
 use Rattle.little_endian.specs.Numbers.{Bytes, number, four_bytes}
 use Rattle.questions.specs.declared.Codes.{Codes}
@@ -6,9 +6,9 @@ use Rattle.questions.specs.declared.References.{References}
 use Rattle.questions.specs.declared.Question.{Question}
 use Rattle.questions.specs.Missing.{reference_of, number_of}
 
--- how many bytes a question has
+-- how many bytes a question has: "The question grows to 44 bytes"
 abbrev pub question_bytes : ℕ
-question_bytes = 40
+question_bytes = 44
 
 -- "Files of questions are these records end to end": how many whole questions so many bytes hold, and the bytes of question k, from 0
 abbrev pub count_of : ℕ → ℕ
@@ -17,9 +17,23 @@ count_of asked = asked / question_bytes
 abbrev pub question_at : ℕ → Bytes → Bytes
 question_at k s = take question_bytes (drop (k * question_bytes) s)
 
--- "Byte 0 is the side .. byte 1 the order type .. byte 2 the queue code .. byte 3 is zero."
+-- "bytes 40 to 43 hold the security code, little-endian"
+abbrev pub security_byte : ℕ
+security_byte = 40
+
+abbrev pub security_code_of : Bytes → ℕ
+security_code_of s = number security_byte s
+
+-- "Byte 0 is the side .. byte 1 the order type .. byte 2 the queue code .. byte 3 is zero." And the security code, which is a code too
 unfoldable pub codes_of : Bytes → Codes
-codes_of s = record { side = get_or s 0 0; order_type = get_or s 1 0; queue = get_or s 2 0; byte_3 = get_or s 3 0 }
+codes_of s =
+    record {
+      side = get_or s 0 0;
+      order_type = get_or s 1 0;
+      queue = get_or s 2 0;
+      byte_3 = get_or s 3 0;
+      security_code = security_code_of s;
+    }
 
 -- "Then nine 4-byte little-endian mils: order price, current bid, current ask, last bid, last ask, previous close, day low, day high
 -- (transacted prices), nominal price."
@@ -61,4 +75,5 @@ bytes_of q =
     (four_bytes (number_of q.references.previous_close) ++
     (four_bytes (number_of q.references.day_low) ++
     (four_bytes (number_of q.references.day_high) ++
-    four_bytes (number_of q.references.nominal)))))))))
+    (four_bytes (number_of q.references.nominal) ++
+    four_bytes q.codes.security_code)))))))))

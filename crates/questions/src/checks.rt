@@ -1,11 +1,22 @@
-// Check 3, a reference off the ladder, or a close or nominal outside its ends; and pairs of a low and a high, which check 4 looks at.
+// Check 15, a bad security code; check 3, a reference off the ladder, or a close or nominal outside its ends; and pairs of a low and a high,
+// which check 4 looks at.
 ghost use Rattle.std.specs.Prelude.{◌≡◌};
 ghost use Rattle.std.specs.List.{list_any};
 ghost use Rattle.ladder.specs.Layout.{prices_of};
-ghost use Rattle.questions.specs.Checks.{is_off, lies_outside, any_off, bad_pair};
+ghost use Rattle.questions.specs.Checks.{bad_security_code, is_off, lies_outside, any_off, bad_pair};
 
 use super::{Reference, References};
 use ladder::table::SpreadTable;
+
+// The last security code.
+const LAST_SECURITY_CODE: u32 = 99999;
+
+// Whether a number is no security code, from 1 to the last.
+pub fn is_bad_security_code(code: u32) -> bool
+    ensures { result ≡ bad_security_code code }
+{
+    (code < 1) | (LAST_SECURITY_CODE < code)
+}
 
 impl Reference {
     // Whether a reference is present, but no ladder price.

@@ -2,9 +2,17 @@
 ghost use Rattle.std.specs.Prelude.{◌≡◌, ◌+◌, ◌≤◌, length};
 ghost use Rattle.little_endian.specs.Numbers.{number};
 ghost use Rattle.questions.specs.Missing.{reference_of};
-ghost use Rattle.questions.specs.Record.{price_byte, codes_of, price_of, references_of, decoded};
+ghost use Rattle.questions.specs.Record.{security_byte, security_code_of, price_byte, codes_of, price_of, references_of, decoded};
 
 use super::{Codes, QUESTION_BYTES, Question, Reference, References};
+
+// The security code of a question, whatever number stands there.
+pub fn security_code_of(s: &[u8]) -> u32
+    requires { security_byte + 4 ≤ length s.now }
+    ensures { result ≡ security_code_of s.now }
+{
+    little_endian::number_at(s, 40)
+}
 
 #[tactic(auto, unfolding(crate::specs::Record::codes_of))]
 fn codes_of(s: &[u8; QUESTION_BYTES]) -> Codes
@@ -15,6 +23,7 @@ fn codes_of(s: &[u8; QUESTION_BYTES]) -> Codes
         order_type: s[1],
         queue: s[2],
         byte_3: s[3],
+        security_code: security_code_of(s),
     }
 }
 

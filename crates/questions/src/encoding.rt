@@ -47,5 +47,6 @@ pub fn encode(question: Question) -> [u8; QUESTION_BYTES]
     bytes = with_reference(bytes, 28, references.day_low);
     bytes = with_reference(bytes, 32, references.day_high);
     bytes = with_reference(bytes, 36, references.nominal);
+    bytes = with_number(bytes, 40, question.codes.security_code);
     bytes
 }

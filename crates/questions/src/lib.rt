@@ -1,4 +1,4 @@
-// Questions: a question from its bytes and its bytes again, and the check of its references against the ladder.
+// Questions: a question from its bytes and its bytes again, and the checks of its security code, and of its references against the ladder.
 //
 // Prices are whole mils. What the codes choose, and the checks that depend on it, are the crate `rules` above.
 #![tactic(auto)]
@@ -6,11 +6,11 @@
 pub mod decoding; // decoding.rt: a question from its bytes
 pub mod encoding; // encoding.rt: the bytes of a question
 mod missing; // missing.rt: references, each a price or missing
-pub mod checks; // checks.rt: references off the ladder or outside its ends, and pairs of a low and a high
+pub mod checks; // checks.rt: security codes, references off the ladder or outside its ends, and pairs of a low and a high
 pub mod code_names; // code_names.rt: the names of a question's codes
 
 // How many bytes a question has.
-pub const QUESTION_BYTES: usize = 40;
+pub const QUESTION_BYTES: usize = 44;
 
 // A reference: a price, or missing.
 #[derive(Clone, Copy, Debug, Default, PartialEq, Eq)]
@@ -33,7 +33,7 @@ pub struct References {
     pub nominal: Reference,
 }
 
-// The code numbers of a question, as they stand in its first four bytes.
+// The code numbers of a question, as they stand in its bytes: the first four, and the security code at the end.
 #[derive(Clone, Copy, Debug, PartialEq, Eq)]
 pub struct Codes {
     pub side: u8,
@@ -41,6 +41,8 @@ pub struct Codes {
     pub queue: u8,
     // To be zero.
     pub byte_3: u8,
+    // Whose question it is.
+    pub security_code: u32,
 }
 
 // A question. The order price is a number like any other: it may be 0, or off the ladder.

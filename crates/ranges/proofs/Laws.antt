@@ -18,11 +18,12 @@ use Rattle.rules.specs.declared.Queues.TheVariants.{Opening, Both, BuyOnly, Sell
 use Rattle.rules.specs.declared.Rule.{Rule}
 use Rattle.rules.specs.declared.Rule.TheVariants.{BuyLimit, BuyEnhanced, BuySpecial, SellLimit, SellEnhanced, SellSpecial}
 use Rattle.questions.specs.Missing.{present, price_or}
-use Rattle.questions.specs.Checks.{is_off, lies_outside, any_off}
+use Rattle.questions.specs.Checks.{bad_security_code, is_off, lies_outside, any_off}
 use Rattle.rules.specs.Checks.{disagree, unopposed}
 use Rattle.rules.specs.Rules.{unknown_code, rule_of, queues_of, chosen, ask_of, bid_of}
 use Rattle.ranges.specs.declared.Range.{Range}
 use Rattle.ranges.specs.declared.Refusal.{Refusal}
+use Rattle.ranges.specs.declared.Refusal.TheVariants.{BadSecurityCode}
 use Rattle.ranges.specs.Bounds.{bottom, top}
 use Rattle.ranges.specs.Permitted.{buy_reference, sell_reference, lowest_of, highest_of, range_of}
 use Rattle.ranges.specs.Readings.{Reading, in_order, reading_by, reading_on, reading_of}
@@ -198,9 +199,14 @@ bounds_on_ladder t wf percent c r range = by_codes (unknown_code c)
         rw (← (ap (range_in range) e))
         (record { lowest_on = lowest_on t wf percent q r queues all rule; highest_on = highest_on t wf percent q r queues all rule })
 
-    by_codes : (unknown : Bool) → reading_on (ladder t) percent (cond unknown None (Some (record { rule = rule; queues = q }))) r ≡ Ok range → EndsOnLadder t range
+    by_security : (bad : Bool) → cond bad (Err BadSecurityCode) (reading_by (ladder t) percent rule q r) ≡ Ok range → EndsOnLadder t range
+    by_security true e = refused_or_permitted _ _ e
+    by_security false e = by_checks (any_off (ladder t) r) (disagree q r) (unopposed rule q) refl e
+
+    by_codes : (unknown : Bool) →
+        reading_on (ladder t) percent (cond unknown None (Some (record { rule = rule; queues = q }))) c.security_code r ≡ Ok range → EndsOnLadder t range
     by_codes true e = refused_or_permitted _ _ e
-    by_codes false e = by_checks (any_off (ladder t) r) (disagree q r) (unopposed rule q) refl e
+    by_codes false e = by_security (bad_security_code c.security_code) e
 
 pub range_laws : RangeLaws
 range_laws = record { references_stay_on = references_stay_on; bounds_on_ladder = bounds_on_ladder }

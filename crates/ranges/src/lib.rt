@@ -17,11 +17,13 @@ pub struct Range {
     pub nine_fold: Reference,
 }
 
-// Why there is no range, with document 01's number.
+// Why there is no range, with its number, in the order of the checks.
 #[derive(Clone, Copy, Debug, PartialEq, Eq)]
 pub enum Refusal {
     // Side, order type or queue code unknown, or byte 3 not zero.
     UnknownCode = 2,
+    // A security code that is not 1 to 99999.
+    BadSecurityCode = 15,
     // A reference that is present but no ladder price; of a previous close or a nominal price, outside the ladder's ends.
     OffLadder = 3,
     // References that disagree with the queue code, or with each other.

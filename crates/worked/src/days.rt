@@ -25,15 +25,16 @@ fn order(rt: &impl Print, asked: &str, day: Day, order: Order, due: Answer) -> i
     reporting::answer(rt, asked, order.price, judging::judge(&bytes), due)
 }
 
-// A limit order with this nominal price; 0 is none.
+// A limit order with this nominal price, 0 is none, and security code 1.
 fn limit(side: u8, price: u32, nominal: u32) -> Order
-    ensures { result ≡ record { side = side; order_type = LIMIT; price = price; nominal = nominal } }
+    ensures { result ≡ record { side = side; order_type = LIMIT; price = price; nominal = nominal; security_code = 1 } }
 {
     Order {
         side,
         order_type: LIMIT,
         price,
         nominal,
+        security_code: 1,
     }
 }
 

@@ -180,6 +180,46 @@ pub(crate) fn refused(rt: &impl Print) -> io::Result<()> {
     )
 }
 
+// The first and the last security code alter nothing of line A; the numbers beside them get 15, after 2 and before 3.
+pub(crate) fn security_codes(rt: &impl Print) -> io::Result<()> {
+    let line_a = Order::new(BUY, LIMIT, BOTH).quotes(19890, 19900);
+    reporting::order(
+        rt,
+        "line A, security code 99999",
+        line_a.security(99999),
+        18900,
+        due(0, 18900, 19900),
+    )?;
+    reporting::order(
+        rt,
+        "security code 0",
+        line_a.security(0),
+        18900,
+        due(15, 0, 0),
+    )?;
+    reporting::order(
+        rt,
+        "security code 100000",
+        line_a.security(100000),
+        18900,
+        due(15, 0, 0),
+    )?;
+    reporting::order(
+        rt,
+        "side 3, security code 0",
+        Order::new(3, LIMIT, NEITHER).security(0),
+        1000,
+        due(2, 0, 0),
+    )?;
+    reporting::order(
+        rt,
+        "day low 0.251, security code 0",
+        Order::new(BUY, LIMIT, OPENING).day(251, 255).security(0),
+        1000,
+        due(15, 0, 0),
+    )
+}
+
 // High(0.034) is 0.058. Where all are missing the range is the whole ladder.
 pub(crate) fn trades(rt: &impl Print) -> io::Result<()> {
     reporting::answer(

@@ -32,6 +32,7 @@ fn main(rt: HostRuntime) -> io::Result<()> {
     further::special(&rt)?;
     further::nine_fold(&rt)?;
     further::refused(&rt)?;
+    further::security_codes(&rt)?;
     further::trades(&rt)?;
     old_closes::steps(&rt)?;
     old_closes::limits_of_closes(&rt)?;

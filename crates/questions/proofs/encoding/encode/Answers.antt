@@ -1,4 +1,4 @@
--- The codes, and nine numbers one after the other.
+-- The codes, and ten numbers one after the other.
 use Rattle.std.proofs.Common.{◌≡◌, ◌∷◌, replicate}
 use Rattle.std.proofs.lemmas.List.Edits.{sets}
 use Rattle.little_endian.specs.Numbers.{Bytes, four_bytes}
@@ -8,7 +8,7 @@ use Rattle.questions.specs.Record.{question_bytes, bytes_of}
 use Rattle.questions.proofs.encoding.encode.Goals as goal
 
 -- the codes, and each number after what was written before it
-are_its_bytes : (q : Question) (price bid ask last_bid last_ask close low high nominal : Bytes) →
+are_its_bytes : (q : Question) (price bid ask last_bid last_ask close low high nominal security : Bytes) →
     price ≡ sets (replicate question_bytes 0) 0 (q.codes.side ∷ q.codes.order_type ∷ q.codes.queue ∷ q.codes.byte_3 ∷ four_bytes q.price) →
     bid ≡ sets price 8 (four_bytes (number_of q.references.current_bid)) →
     ask ≡ sets bid 12 (four_bytes (number_of q.references.current_ask)) →
@@ -18,13 +18,14 @@ are_its_bytes : (q : Question) (price bid ask last_bid last_ask close low high n
     low ≡ sets close 28 (four_bytes (number_of q.references.day_low)) →
     high ≡ sets low 32 (four_bytes (number_of q.references.day_high)) →
     nominal ≡ sets high 36 (four_bytes (number_of q.references.nominal)) →
-    nominal ≡ bytes_of q
+    security ≡ sets nominal 40 (four_bytes q.codes.security_code) →
+    security ≡ bytes_of q
 unfolding bytes_of
-are_its_bytes q price bid ask last_bid last_ask close low high nominal a b c d e f g h i = rw (i, h, g, f, e, d, c, b, a)
+are_its_bytes q price bid ask last_bid last_ask close low high nominal security a b c d e f g h i j = rw (j, i, h, g, f, e, d, c, b, a)
 
 pub returns : goal.returns
 returns c =
-    are_its_bytes c.args.question _ _ _ _ _ _ _ _ _
+    are_its_bytes c.args.question _ _ _ _ _ _ _ _ _ _
     c.with_number-bytes.ensures
     c.with_reference-bytes.ensures
     c.with_reference-bytes-2.ensures
@@ -34,3 +35,4 @@ returns c =
     c.with_reference-bytes-6.ensures
     c.with_reference-bytes-7.ensures
     c.with_reference-bytes-8.ensures
+    c.with_number-bytes-2.ensures

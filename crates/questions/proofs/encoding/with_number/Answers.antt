@@ -1,4 +1,4 @@
--- Four bytes of forty come back with the number in them.
+-- Four bytes of a question come back with the number in them.
 use Rattle.std.proofs.Common.{◌≡◌, ℕ, ◌+◌, ◌-◌, ◌≤◌, List, ◌++◌, append_assoc, length, take, drop, sym, ◌∙◌, arith, rules}
 use Rattle.std.proofs.lemmas.List.Edits.{sets, sets-eq}
 use Rattle.std.proofs.Math.Seq.{drop-drop}
