@@ -1,7 +1,7 @@
 /*
  * Speed: the library's batch against a plain C judge written for speed, on the
  * same questions, turn by turn in one run, of each the best round; and the day
- * book and the program likewise. Batches that name a table are timed beside
+ * book and the programs likewise. Batches that name a table are timed beside
  * those that name none, and a prepared question beside whole questions.
  */
 #define _POSIX_C_SOURCE 199309L
@@ -196,8 +196,9 @@ int main(void)
     run_tables();
     run_prepared();
     run_days();
-    printf("the program, from a file of questions to lines\n"
-           "             pricecheck      plain C   ratio\n"
+    printf("pricecheck, from a file of questions to lines, and dayreport on "
+           "that file\n"
+           "                program      plain C   ratio   to pricecheck\n"
            "               M/s    ns    M/s    ns\n");
     time_programs("usual", mix_usual);
     time_programs("random", mix_random);

@@ -4,29 +4,13 @@
  */
 #include <stdint.h>
 #include <stdio.h>
-#include <string.h>
 #include <unistd.h>
 
-#include "quick.h"
+#include "quick_piece.h"
 
-enum { MOST = 1000, LINE = 48 };
+enum { LINE = 48 };
 
-static uint8_t questions[QUICK_QUESTION_BYTES * MOST];
-static uint8_t answers[12 * MOST];
 static char text[LINE * MOST + 16];
-
-/* Reads until the piece is full or the input ends. */
-static size_t fill(void)
-{
-    size_t bytes = 0;
-    while (bytes < sizeof questions) {
-        ssize_t got = read(0, questions + bytes, sizeof questions - bytes);
-        if (got <= 0)
-            break;
-        bytes += (size_t)got;
-    }
-    return bytes;
-}
 
 static int write_all(const char *from, size_t bytes)
 {
@@ -38,12 +22,6 @@ static int write_all(const char *from, size_t bytes)
         bytes -= (size_t)done;
     }
     return 1;
-}
-
-static uint32_t get(const uint8_t *bytes)
-{
-    return bytes[0] | (uint32_t)bytes[1] << 8 | (uint32_t)bytes[2] << 16
-        | (uint32_t)bytes[3] << 24;
 }
 
 /* A number in decimal, and a character after it. */
@@ -66,11 +44,10 @@ int main(void)
     uint32_t number = 0;
     size_t bytes;
     do {
-        bytes = fill();
+        bytes = next_piece();
         size_t count = bytes / QUICK_QUESTION_BYTES;
         size_t left = bytes % QUICK_QUESTION_BYTES;
         char *to = text;
-        quick_judge_batch(questions, bytes - left, answers, sizeof answers);
         for (size_t k = 0; k < count; k++) {
             const uint8_t *question = questions + QUICK_QUESTION_BYTES * k;
             to = put(to, ++number, ' ');

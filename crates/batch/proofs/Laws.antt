@@ -7,8 +7,8 @@ use native.Mathlib.Omega.{arith}
 use mathlib.Core.Bool.{Bool, true, false, not, ◌&&◌, cond, ◌||◌}
 use mathlib.Core.List.{List, ◌++◌, append_assoc}
 use lib.Dec.{T, eqb, leb, ltb, leb→le}
-use lib.ListN.{length, get_or, take, drop, length-drop}
-use lib.Seq.{take_at, drop_at, get_or-take, get_or-drop, length-take-le}
+use lib.ListN.{length, get_or, take, drop}
+use lib.Seq.{take_at, drop_at, get_or-take, get_or-drop}
 use borrow.Author.Tests.{not-true, eqb-true, eqb-false, le-ltb}
 use Rattle.tables.specs.Bands.{Table, well_formed}
 use Rattle.tables.specs.Named.{table_named, unknown_table}
@@ -25,6 +25,7 @@ use Rattle.little_endian.specs.Numbers.{number}
 use Rattle.questions.specs.Record.{question_bytes, count_of, question_at}
 use Rattle.little_endian.specs.Laws.{number_bound}
 use Rattle.little_endian.proofs.Laws.{number_laws}
+use Rattle.questions.proofs.Laws.{question_laws}
 use Rattle.judging.specs.declared.Answer.{Answer}
 use Rattle.judging.specs.Answers.{judged}
 use Rattle.judging.specs.Laws.{not_refused, is_question_number}
@@ -33,7 +34,6 @@ use Rattle.batch.specs.declared.Outcome.{Outcome}
 use Rattle.batch.specs.Record.{answer_bytes, encoded, answer_at}
 use Rattle.batch.specs.Batch.{refused, answers_to, answered, buffer_after, outcome_found}
 use Rattle.batch.specs.Laws.{is_judged, EmptyBatch, AnswerAlone, AnswerReadsBack, SameBut, OthersKept, AnyOrderPriceInBatch, BatchOnTable, AnyOrderPriceInBatchOn, BatchLaws}
-use Rattle.batch.proofs.Lengths.{whole}
 use Rattle.batch.proofs.Changes.{same_question, changed_record, followed}
 use Rattle.batch.proofs.Buffer.{length_encoded, length_answers}
 
@@ -103,25 +103,7 @@ answer_of s at =
       number_of s at 8 (at + 8) (omega arith) (omega arith),
     )
 
--- ---- question k
-
-length_question : (s : List ℕ) (k : ℕ) → k < count_of (length s) → length (question_at k s) ≡ question_bytes
-length_question s k h =
-    length-take-le question_bytes (drop (k * question_bytes) s)
-    (rw (length-drop (k * question_bytes) s) (omega (arith, whole (length s))))
-
--- ---- answer k as numbers
-
-small_number : (n : ℕ) → T (is_question_number n) → n < number_bound
-small_number n h =
-    ⊎_elim
-    (λ below.
-    ⊎_elim
-    (λ e. let z : n ≡ 0 = eqb-true n 0 (passed (eqb n 0) e) in omega arith)
-    (λ m. let z : n ≤ 10 = leb→le n 10 (and_right (leb 2 n) (leb n 10) m) in omega arith)
-    (or_cases (eqb n 0) (leb 2 n && leb n 10) below))
-    (λ e. let z : n ≡ 15 = eqb-true n 15 (passed (eqb n 15) e) in omega arith)
-    (or_cases (eqb n 0 || leb 2 n && leb n 10) (eqb n 15) h)
+-- ---- whole answers
 
 module _ (t : Table) (wf : T (well_formed t)) (fits : last_price (ladder t) < number_bound) where
   small_price : (p : ℕ) → T (is_ladder_price p t) → p < number_bound
@@ -129,7 +111,10 @@ module _ (t : Table) (wf : T (well_formed t)) (fits : last_price (ladder t) < nu
 
   whole_answer : (percent : Percentage) (q : List ℕ) → length q ≡ question_bytes → answer_at 0 (encoded (judged (ladder t) percent q)) ≡ judged (ladder t) percent q
   whole_answer percent q n =
-      let number = small_number (judged (ladder t) percent q).number ((judging_laws.question_numbers (ladder t) percent q).of_a_question n) in
+      let is_number = (judging_laws.question_numbers (ladder t) percent q).of_a_question n in
+      let number : (judged (ladder t) percent q).number < number_bound =
+      omega (arith, judging_laws.largest_number (judged (ladder t) percent q).number is_number)
+      in
       ⊎_elim
       (λ r. reads_back (judged (ladder t) percent q) number (small_price _ r.lowest_on) (small_price _ r.highest_on))
       (λ none.
@@ -140,14 +125,14 @@ answer_reads_back : AnswerReadsBack
 answer_reads_back t wf fits percent s a h k m =
     sym (answer_of (buffer_after (ladder t) percent s a) (k * answer_bytes)) ∙
     ap (answer_at 0) (answer_alone (ladder t) percent s a h k m) ∙
-    whole_answer t wf fits percent (question_at k s) (length_question s k m)
+    whole_answer t wf fits percent (question_at k s) (question_laws.questions_are_whole s k m)
 
 any_order_price_in_batch : AnyOrderPriceInBatch
 any_order_price_in_batch t wf fits percent s u a b h i k m n same judged_before =
     let first = answer_reads_back t wf fits percent s a h k m in
     let second = answer_reads_back t wf fits percent u b i k n in
     rw (first, second)
-    (judging_laws.any_order_price t wf percent (question_at k s) (question_at k u) (length_question s k m) (length_question u k n) same
+    (judging_laws.any_order_price t wf percent (question_at k s) (question_at k u) (question_laws.questions_are_whole s k m) (question_laws.questions_are_whole u k n) same
     (subst (λ (x : Answer). T (not_refused x.number)) first judged_before))
 
 -- ---- on a table by its number

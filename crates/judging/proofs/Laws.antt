@@ -1,10 +1,10 @@
 -- The laws of specs/Laws.antt, proved. Other crates see them as fields of judging_laws.
 use Rattle.std.specs.Prelude.{Option, Some, None, Ok, Err}
-use mathlib.Core.Logic.{◌⊎◌, inl, inr}
+use mathlib.Core.Logic.{◌⊎◌, inl, inr, ⊎_elim}
 use mathlib.Core.Path.{◌≡◌, refl, sym, ◌∙◌}
 use Prim.Native.Nat.{ℕ, ◌≤◌, ◌<◌}
 use native.Mathlib.Omega.{arith}
-use mathlib.Core.Bool.{Bool, true, false, ◌&&◌}
+use mathlib.Core.Bool.{Bool, true, false, ◌&&◌, ◌||◌}
 use mathlib.Core.List.{List}
 use lib.Dec.{T, eqb, leb, leb→le}
 use lib.ListN.{length}
@@ -16,7 +16,7 @@ use Rattle.ladder.specs.Ladder.{ladder, is_ladder_price}
 use Rattle.ladder.specs.Named.{ladder_named, usual_ladder}
 use Rattle.ladder.specs.Search.{first, latest, or_else}
 use Rattle.ladder.specs.Laws.{Finds, Least, Greatest}
-use Rattle.facts.proofs.Tests.{and_left, and_right, true_of}
+use Rattle.facts.proofs.Tests.{and_left, and_right, or_cases, passed, true_of}
 use Rattle.ladder.proofs.Laws.{ladder_laws}
 use Rattle.limits.specs.declared.Percentage.{Percentage}
 use Rattle.limits.specs.Limits.{five_percent}
@@ -35,7 +35,7 @@ use Rattle.judging.specs.Shown.{is_shown, shown_of}
 use Rattle.judging.specs.Verdicts.{verdict_of}
 use Rattle.judging.specs.Numbers.{verdict_number}
 use Rattle.judging.specs.Answers.{none_shown, answer_on, answer_by, answer_decoded, prepared_judged_by, then_judged, judged, judged_by}
-use Rattle.judging.specs.Laws.{LadderRange, RangeOrNone, SameRange, AnyOrderPrice, SecurityAltersNoAnswer, AnyRange, JudgedOnTable, AnyRangeOnTable, AnyOrderPriceOn, is_question_number, is_refusal, QuestionNumbers, JudgingLaws}
+use Rattle.judging.specs.Laws.{LadderRange, RangeOrNone, SameRange, AnyOrderPrice, SecurityAltersNoAnswer, AnyRange, JudgedOnTable, AnyRangeOnTable, AnyOrderPriceOn, is_question_number, is_refusal, QuestionNumbers, LargestNumber, JudgingLaws}
 use Rattle.judging.proofs.Windows.{over_zero}
 use Rattle.judging.proofs.Parts.{both_parts, not_judged}
 use Rattle.judging.proofs.Acceptance.{shown_is_exactly, from_lowest_to_highest, accepts, judged_number}
@@ -236,6 +236,17 @@ question_numbers l percent s =
         rw by (refusal_shows_none l (reading_of l percent (codes_of s) (references_of s)) (price_of s) (rw by at h))
     refused false e h = rw (other_bytes l percent s (eqb-false (length s) question_bytes e))
 
+largest_number : LargestNumber
+largest_number n h =
+    ⊎_elim
+    (λ below.
+    ⊎_elim
+    (λ e. let z : n ≡ 0 = eqb-true n 0 (passed (eqb n 0) e) in omega arith)
+    (λ m. let z : n ≤ 10 = leb→le n 10 (and_right (leb 2 n) (leb n 10) m) in omega arith)
+    (or_cases (eqb n 0) (leb 2 n && leb n 10) below))
+    (λ e. let z : n ≡ 15 = eqb-true n 15 (passed (eqb n 15) e) in omega arith)
+    (or_cases (eqb n 0 || leb 2 n && leb n 10) (eqb n 15) h)
+
 -- ---- all of them
 
 pub judging_laws : JudgingLaws
@@ -251,4 +262,5 @@ judging_laws =
       any_range_on_table = any_range_on_table;
       any_order_price_on = any_order_price_on;
       question_numbers = question_numbers;
+      largest_number = largest_number;
     }

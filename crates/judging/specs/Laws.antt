@@ -135,6 +135,10 @@ pub record Numbers (a : Answer) (s : Bytes) : Type 0 where
 abbrev pub QuestionNumbers : Type 0
 QuestionNumbers = (l : Prices) (percent : Percentage) (s : Bytes) → Numbers (judged l percent s) s
 
+-- No number that a question can get is above 15.
+abbrev pub LargestNumber : Type 0
+LargestNumber = (n : ℕ) → T (is_question_number n) → n ≤ 15
+
 -- ---- all of them
 
 pub record JudgingLaws : Type 0 where
@@ -148,3 +152,4 @@ pub record JudgingLaws : Type 0 where
   pub any_range_on_table : AnyRangeOnTable
   pub any_order_price_on : AnyOrderPriceOn
   pub question_numbers : QuestionNumbers
+  pub largest_number : LargestNumber

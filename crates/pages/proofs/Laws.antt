@@ -1,48 +1,36 @@
 -- The laws of specs/Laws.antt, proved. Other crates see them as fields of page_laws.
 use Rattle.std.specs.Prelude.{Some, None}
-use mathlib.Core.Path.{◌≡◌, refl, sym, ◌∙◌, ap}
+use mathlib.Core.Path.{◌≡◌, refl, sym, ◌∙◌}
 use Prim.Native.Nat.{ℕ, zero, suc, ◌+◌, ◌*◌, ◌-◌, ◌%◌, ◌≤◌}
 use native.Mathlib.Nat.{add-zero, add-suc, add_assoc}
 use native.Mathlib.Omega.{arith}
 use mathlib.Core.Bool.{Bool, true, false, cond}
 use mathlib.Core.List.{List, ◌++◌, append_assoc, append-nil}
-use lib.ListN.{length, take, drop, length-append, length-drop}
-use lib.Seq.{take-append-le, drop-append-le, drop-append-add, drop_at, drop-length, length-take-le}
-use Rattle.text.specs.Decimal.{Text}
-use Rattle.text.specs.Ending.{ending_at}
+use lib.ListN.{length, length-append}
+use Rattle.text.specs.Ending.{ending_at, StandsFrom}
+use Rattle.text.proofs.Laws.{text_laws}
 use Rattle.limits.specs.declared.Percentage.{Percentage}
 use Rattle.questions.specs.Record.{question_bytes, count_of, question_at, security_code_of}
+use Rattle.questions.proofs.Laws.{question_laws}
 use Rattle.judging.specs.Answers.{judged}
 use Rattle.pages.specs.Lines.{line, lines_to, left_line, page}
-use Rattle.pages.specs.Pages.{StandsFrom, page_refused}
+use Rattle.pages.specs.Pages.{page_refused}
 use Rattle.pages.specs.Laws.{PagesJoin, EmptyPage, PageStands, PageLaws}
 
 -- ---- pages join
-
--- a question of the first part
-question_before : (s t : List ℕ) (k : ℕ) → suc k * question_bytes ≤ length s → question_at k (s ++ t) ≡ question_at k s
-question_before s t k h =
-    ap (take question_bytes) (drop-append-le (k * question_bytes) s t (omega arith)) ∙
-    take-append-le question_bytes (drop (k * question_bytes) s) t (omega (arith, length-drop (k * question_bytes) s, h))
-
--- a question of the second part
-question_after : (s t : List ℕ) (n k : ℕ) → length s ≡ n * question_bytes → question_at (n + k) (s ++ t) ≡ question_at k t
-question_after s t n k h =
-    let place : (n + k) * question_bytes ≡ length s + k * question_bytes = omega (arith, h) in
-    ap (take question_bytes) (ap (λ (i : ℕ). drop i (s ++ t)) place ∙ drop-append-add s t (k * question_bytes))
 
 module _ (l : List ℕ) (percent : Percentage) (first : ℕ) (s t : List ℕ) where
   lines_before : (k : ℕ) → k * question_bytes ≤ length s → lines_to l percent first k (s ++ t) ≡ lines_to l percent first k s
   unfolding lines_to
   lines_before zero h = refl
-  lines_before (suc k) h = rw (lines_before k (omega (arith, h)), question_before s t k h)
+  lines_before (suc k) h = rw (lines_before k (omega (arith, h)), (question_laws.files_end_to_end s t).first k h)
 
   lines_join : (n k : ℕ) → length s ≡ n * question_bytes →
       lines_to l percent first (n + k) (s ++ t) ≡ lines_to l percent first n s ++ lines_to l percent (first + n) k t
   unfolding lines_to
   lines_join n zero h = rw (add-zero n) (lines_before n (omega (arith, h)) ∙ sym (append-nil (lines_to l percent first n s)))
   lines_join n (suc k) h =
-      rw (add-suc n k, lines_join n k h, question_after s t n k h, add_assoc first n k)
+      rw (add-suc n k, lines_join n k h, (question_laws.files_end_to_end s t).second n k h, add_assoc first n k)
       (append_assoc (lines_to l percent first n s) (lines_to l percent (first + n) k t)
       (line (first + (n + k)) (judged l percent (question_at k t)) (security_code_of (question_at k t))))
 
@@ -64,27 +52,13 @@ empty_page l percent first = refl
 
 -- ---- where a page stands
 
--- written at the end of a text, x stands there
-pub ends_with : (x text : Text) → StandsFrom (length text - length x) x (ending_at (length text) x text)
-ends_with x text =
-    record {
-      inside =
-          omega (arith, length-append (take (length text - length x) text) (x ++ drop (length text) text), front);
-      is_page =
-          drop_at (take (length text - length x) text) (x ++ drop (length text) text) (length text - length x) front ∙
-          rw (drop-length text) (append-nil x);
-    }
-  where
-    front : length (take (length text - length x) text) ≡ length text - length x
-    front = length-take-le (length text - length x) text (omega arith)
-
 page_stands : PageStands
 page_stands l percent first s text start = go (page_refused first (length s) (length text))
   where
     go : (v : Bool) → cond v None (Some (length text - length (page l percent first s))) ≡ Some start →
         StandsFrom start (page l percent first s) (cond v text (ending_at (length text) (page l percent first s) text))
     go true e = cc
-    go false e = let begins : length text - length (page l percent first s) ≡ start = cc in rw (← begins) (ends_with (page l percent first s) text)
+    go false e = let begins : length text - length (page l percent first s) ≡ start = cc in rw (← begins) (text_laws.stands_at_end (page l percent first s) text)
 
 -- ---- all of them
 

@@ -2,12 +2,13 @@
 -- pages_join.
 use Rattle.std.specs.Prelude.{◌≡◌, ℕ, ◌+◌, ◌%◌, Some, [], ◌++◌, length}
 use Rattle.text.specs.Decimal.{Text}
+use Rattle.text.specs.Ending.{StandsFrom}
 use Rattle.ladder.specs.Ladder.{Prices}
 use Rattle.limits.specs.declared.Percentage.{Percentage}
 use Rattle.little_endian.specs.Numbers.{Bytes}
 use Rattle.questions.specs.Record.{question_bytes, count_of}
 use Rattle.pages.specs.Lines.{page}
-use Rattle.pages.specs.Pages.{StandsFrom, page_place, text_after}
+use Rattle.pages.specs.Pages.{page_place, text_after}
 
 -- How the input is cut does not show: after whole questions, the page goes on with the next number.
 abbrev pub PagesJoin : Type 0

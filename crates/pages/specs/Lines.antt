@@ -1,6 +1,6 @@
 -- The lines of pricecheck. Document 01, "Prices worked out"; document 02, f.
 use Rattle.std.specs.Prelude.{ℕ, zero, suc, ◌+◌, ◌%◌, [], ◌∷◌, ◌++◌, length}
-use Rattle.text.specs.Decimal.{Text, field}
+use Rattle.text.specs.Decimal.{Text, blank, newline, field}
 use Rattle.ladder.specs.Ladder.{Prices}
 use Rattle.limits.specs.declared.Percentage.{Percentage}
 use Rattle.limits.specs.declared.terms.BadTerms.{BadTerms}
@@ -9,13 +9,6 @@ use Rattle.little_endian.specs.Numbers.{Bytes}
 use Rattle.questions.specs.Record.{question_bytes, count_of, question_at, security_code_of}
 use Rattle.judging.specs.declared.Answer.{Answer}
 use Rattle.judging.specs.Answers.{judged}
-
--- the characters after a number
-abbrev pub blank : ℕ
-blank = 32
-
-abbrev pub newline : ℕ
-newline = 10
 
 -- "one line each: question number from 1, answer number, lowest, highest, in decimal mils with single blanks", and "the code, as read, as a
 -- fifth number"

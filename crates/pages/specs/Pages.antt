@@ -1,5 +1,5 @@
 -- A page that is written at the end of a text.
-use Rattle.std.specs.Prelude.{◌≡◌, ℕ, ◌+◌, ◌*◌, ◌-◌, ◌≤◌, Bool, ◌||◌, cond, Option, Some, None, ltb, length, drop}
+use Rattle.std.specs.Prelude.{ℕ, ◌+◌, ◌*◌, ◌-◌, Bool, ◌||◌, cond, Option, Some, None, ltb, length}
 use Rattle.text.specs.Decimal.{Text}
 use Rattle.text.specs.Ending.{ending_at}
 use Rattle.ladder.specs.Ladder.{Prices}
@@ -34,8 +34,3 @@ page_place l percent first s text =
 abbrev pub text_after : Prices → Percentage → ℕ → Bytes → Text → Text
 text_after l percent first s text =
     cond (page_refused first (length s) (length text)) text (ending_at (length text) (page l percent first s) text)
-
--- from `start` to its end a text is this, and nothing else
-pub record StandsFrom (start : ℕ) (page text : Text) : Type 0 where
-  pub inside : start ≤ length text
-  pub is_page : drop start text ≡ page

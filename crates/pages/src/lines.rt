@@ -1,10 +1,10 @@
 // The lines, written from the last to the first.
 ghost use Rattle.std.specs.Prelude.{◌≡◌, ◌+◌, ◌*◌, ◌≤◌, ◌<◌, length};
-ghost use Rattle.text.specs.Ending.{Written};
+ghost use Rattle.text.specs.Ending.{StandsFrom, Written};
 ghost use Rattle.ladder.specs.Layout.{prices_of};
 ghost use Rattle.questions.specs.Record.{question_bytes};
 ghost use Rattle.pages.specs.Lines.{line, lines_to, left_line, refusal_line};
-ghost use Rattle.pages.specs.Pages.{line_room, left_room, page_count, page_place, text_after, StandsFrom};
+ghost use Rattle.pages.specs.Pages.{line_room, left_room, page_count, page_place, text_after};
 
 use super::{LEFT_ROOM, LINE_ROOM};
 use judging::Answer;
@@ -84,7 +84,7 @@ pub fn write_page(terms: &Terms, questions: &[u8], first: u64, text: &mut [u8]) 
 }
 
 // Writes the line of why there is nothing to judge by at the end of the text. Answers where it begins.
-#[tactic(auto, using(crate::proofs::Lengths::price_fits, crate::proofs::Laws::ends_with))]
+#[tactic(auto, using(crate::proofs::Lengths::price_fits, crate::proofs::Lengths::stands_at_end))]
 pub fn write_refusal(bad: BadTerms, text: &mut [u8]) -> usize
     requires { line_room ≤ length text.old }
     ensures { StandsFrom result (refusal_line bad) text.new }

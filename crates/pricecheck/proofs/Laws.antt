@@ -16,11 +16,12 @@ use Rattle.limits.specs.Terms.{Basis, terms_on}
 use Rattle.text.specs.Decimal.{decimal, up_to}
 use Rattle.little_endian.specs.Numbers.{Bytes}
 use Rattle.questions.specs.Record.{count_of}
+use Rattle.pieces.specs.Pieces.{joined, all_full, full_pieces}
 use Rattle.pages.specs.Pages.{line_room, left_room}
 use Rattle.pages.proofs.Laws.{page_laws}
 use Rattle.pricecheck.specs.Arguments.{no_table, is_digit, table_asked}
 use Rattle.pricecheck.specs.Run.{page_from, output, piece_bytes, text_bytes, first_of, answered_part, goes_on, run_from}
-use Rattle.pricecheck.specs.Laws.{joined, all_full, pages_from, PiecesJoin, full_pieces, RunIsPrinted, PiecesFit, ByArgument, PricecheckLaws}
+use Rattle.pricecheck.specs.Laws.{pages_from, PiecesJoin, RunIsPrinted, PiecesFit, ByArgument, PricecheckLaws}
 
 -- all of a piece that came without a failure is answered
 all_answered : (s : Bytes) → answered_part false (length s) s ≡ s
@@ -40,26 +41,26 @@ module _ (basis : Basis) where
       page_laws.pages_join basis.prices basis.percentage (first_of k) s t (omega (arith, full)) ∙
       ap (λ (n : ℕ). page_from basis (first_of k) s ++ page_from basis n t) next
 
-  from_piece : (k : ℕ) (pieces : List Bytes) (last : Bytes) → T (all_full pieces) →
+  from_piece : (k : ℕ) (pieces : List Bytes) (last : Bytes) → T (all_full piece_bytes pieces) →
       page_from basis (first_of k) (joined pieces ++ last) ≡ pages_from basis k pieces ++ page_from basis (first_of (k + length pieces)) last
   from_piece k [] last h = rw (add-zero k)
   from_piece k (s ∷ rest) last h =
-      let full = eqb→eq (length s) piece_bytes (and_left (eqb (length s) piece_bytes) (all_full rest) h) in
-      let more = from_piece (suc k) rest last (and_right (eqb (length s) piece_bytes) (all_full rest) h) in
+      let full = eqb→eq (length s) piece_bytes (and_left (eqb (length s) piece_bytes) (all_full piece_bytes rest) h) in
+      let more = from_piece (suc k) rest last (and_right (eqb (length s) piece_bytes) (all_full piece_bytes rest) h) in
       let count : k + suc (length rest) ≡ suc k + length rest = omega arith in
       rw (append_assoc s (joined rest) last, one_piece k s (joined rest ++ last) full, more, count)
       (sym (append_assoc (page_from basis (first_of k) s) (pages_from basis (suc k) rest) (page_from basis (first_of (suc k + length rest)) last)))
 
   -- ---- a run
 
-  run_from_lem : (k : ℕ) (pieces : List Bytes) (last : Bytes) (failed : Bool) (later : List (Bytes × Bool)) → T (all_full pieces) →
+  run_from_lem : (k : ℕ) (pieces : List Bytes) (last : Bytes) (failed : Bool) (later : List (Bytes × Bool)) → T (all_full piece_bytes pieces) →
       length last < piece_bytes →
       run_from basis k (full_pieces pieces ++ ((last, failed) ∷ later)) ≡
       pages_from basis k pieces ++ page_from basis (first_of (k + length pieces)) (answered_part failed (length last) last)
   run_from_lem k [] last failed later h short = rw (ends_there failed last short, add-zero k) (append-nil _)
   run_from_lem k (s ∷ rest) last failed later h short =
-      let full = eqb→eq (length s) piece_bytes (and_left (eqb (length s) piece_bytes) (all_full rest) h) in
-      let more = run_from_lem (suc k) rest last failed later (and_right (eqb (length s) piece_bytes) (all_full rest) h) short in
+      let full = eqb→eq (length s) piece_bytes (and_left (eqb (length s) piece_bytes) (all_full piece_bytes rest) h) in
+      let more = run_from_lem (suc k) rest last failed later (and_right (eqb (length s) piece_bytes) (all_full piece_bytes rest) h) short in
       let count : k + suc (length rest) ≡ suc k + length rest = omega arith in
       rw (all_answered s, eq-eqb (length s) piece_bytes full, more, count)
       (sym (append_assoc (page_from basis (first_of k) s) (pages_from basis (suc k) rest)

@@ -1,23 +1,14 @@
 -- The laws of pricecheck. Each is a field of the record PricecheckLaws at the end, which proofs/Laws.antt proves as pricecheck_laws: PiecesJoin
 -- is the field pieces_join.
-use Rattle.std.specs.Prelude.{◌≡◌, ℕ, suc, ◌+◌, ◌≤◌, ◌<◌, Bool, true, false, ◌&&◌, List, [], ◌∷◌, ◌++◌, T, eqb, length}
+use Rattle.std.specs.Prelude.{◌≡◌, ℕ, suc, ◌+◌, ◌≤◌, ◌<◌, Bool, true, false, List, [], ◌∷◌, ◌++◌, T, length}
 use Rattle.text.specs.Decimal.{Text}
 use Rattle.tables.specs.Named.{usual_table, unknown_table}
 use Rattle.limits.specs.Terms.{Basis, terms_on}
 use Rattle.little_endian.specs.Numbers.{Bytes}
+use Rattle.pieces.specs.Pieces.{joined, all_full, full_pieces}
 use Rattle.pages.specs.Pages.{page_refused}
 use Rattle.pricecheck.specs.Arguments.{no_table, table_asked}
 use Rattle.pricecheck.specs.Run.{page_from, printed, output, piece_bytes, text_bytes, first_of, answered_part, run_from}
-
--- pieces end to end
-abbrev pub joined : List Bytes → Bytes
-joined [] = []
-joined (s ∷ rest) = s ++ joined rest
-
--- every piece is full
-abbrev pub all_full : List Bytes → Bool
-all_full [] = true
-all_full (s ∷ rest) = eqb (length s) piece_bytes && all_full rest
 
 -- the pages of pieces, of which the first is piece k
 abbrev pub pages_from : Basis → ℕ → List Bytes → Text
@@ -27,21 +18,16 @@ pages_from basis k (s ∷ rest) = page_from basis (first_of k) s ++ pages_from b
 -- How the input is cut does not show: of full pieces and a last one, the pages end to end are what is printed of the whole.
 abbrev pub PiecesJoin : Type 0
 PiecesJoin =
-    (basis : Basis) (pieces : List Bytes) (last : Bytes) → T (all_full pieces) →
+    (basis : Basis) (pieces : List Bytes) (last : Bytes) → T (all_full piece_bytes pieces) →
     printed basis (joined pieces ++ last) ≡ pages_from basis 0 pieces ++ page_from basis (first_of (length pieces)) last
-
--- full pieces, each come without a failure
-abbrev pub full_pieces : List Bytes → List (Bytes × Bool)
-full_pieces [] = []
-full_pieces (s ∷ rest) = (s, false) ∷ full_pieces rest
 
 -- A run writes what is printed of all that came: of full pieces, and of what is answered of the first that is not full, after which nothing
 -- is read. This is a law about the model of a run, `run_from`. What ties the program to the model is what `print` requires (each piece is
 -- written as its page) and what `answer_piece`, `first_of` and `does_go_on` (when another piece is read) ensure. That the loop of `main`
--- counts the pieces, that `fill` reads on and that `print` writes is read and tested (host/pricecheck), not proved.
+-- counts the pieces, that `fill` of pieces reads on and that `print` writes is read and tested (host/pricecheck), not proved.
 abbrev pub RunIsPrinted : Type 0
 RunIsPrinted =
-    (basis : Basis) (pieces : List Bytes) (last : Bytes) (failed : Bool) (later : List (Bytes × Bool)) → T (all_full pieces) →
+    (basis : Basis) (pieces : List Bytes) (last : Bytes) (failed : Bool) (later : List (Bytes × Bool)) → T (all_full piece_bytes pieces) →
     length last < piece_bytes →
     run_from basis 0 (full_pieces pieces ++ ((last, failed) ∷ later)) ≡ printed basis (joined pieces ++ answered_part failed (length last) last)
 

@@ -1,5 +1,5 @@
 -- What pricecheck prints, how it cuts its input, and what a run writes.
-use Rattle.std.specs.Prelude.{◌≡◌, ℕ, suc, ◌+◌, ◌*◌, Bool, true, false, not, ◌&&◌, cond, List, [], ◌∷◌, ◌++◌, eqb, min, Result, Ok, Err, length, take, drop}
+use Rattle.std.specs.Prelude.{◌≡◌, ℕ, suc, ◌+◌, ◌*◌, Bool, true, not, ◌&&◌, cond, List, [], ◌∷◌, ◌++◌, eqb, Ok, Err, length, take, drop}
 use Rattle.text.specs.Decimal.{Text}
 use Rattle.limits.specs.Terms.{Basis, Found}
 use Rattle.little_endian.specs.Numbers.{Bytes}
@@ -40,16 +40,6 @@ text_bytes = piece_questions * line_room + left_room
 -- the number of the first question of piece k, from 0
 abbrev pub first_of : ℕ → ℕ
 first_of k = k * piece_questions + 1
-
--- what a read answered: an error says that it failed; a number is how many bytes came
-abbrev pub read_failed : {E : Type 0} → Result ℕ E → Bool
-read_failed (Ok n) = false
-read_failed (Err e) = true
-
--- the number itself, at most `most`, and 0 where the read failed
-abbrev pub clamp_len : {E : Type 0} → Result ℕ E → ℕ → ℕ
-clamp_len (Ok n) most = min n most
-clamp_len (Err e) most = 0
 
 -- the bytes of a piece that are answered: all that came; after a read that failed only whole questions, as more might have come
 abbrev pub answered_bytes : Bool → ℕ → ℕ

@@ -7,17 +7,21 @@
 
 mod arguments; // arguments.rt: which table the arguments name
 
-ghost use Rattle.std.specs.Prelude.{◌≡◌, ◌≤◌, ◌<◌, T, IfOk, length, drop};
+ghost use Rattle.std.specs.Prelude.{◌≡◌, ◌≤◌, length, drop};
 ghost use Rattle.limits.specs.Terms.{basis_of};
 ghost use Rattle.pages.specs.Lines.{refusal_line};
-ghost use Rattle.pages.specs.Pages.{StandsFrom};
-ghost use Rattle.pricecheck.specs.Run.{page_from, EndsWith, piece_bytes, text_bytes, first_of, read_failed, clamp_len, answered_bytes, answered_part, goes_on};
+ghost use Rattle.pricecheck.specs.Run.{answered_bytes as Run·answered_bytes};
+ghost use Rattle.pricecheck.specs.Run.{page_from, EndsWith, piece_bytes, text_bytes, first_of, answered_part, goes_on};
 
 use limits::terms::{BadTerms, Terms};
 use pages::lines::{write_page, write_refusal};
+use pieces::{Input, fill, say_failure};
 use questions::QUESTION_BYTES;
 use std::io;
 use std::io::{Read, Write};
+
+// What messages begin with.
+const PROGRAM: &str = "pricecheck";
 
 // How many questions are read at a time, the bytes that they have, and the characters that their page may have.
 const PIECE_QUESTIONS: usize = 1600;
@@ -26,23 +30,13 @@ const PIECE_BYTES: usize = PIECE_QUESTIONS * QUESTION_BYTES;
 
 const TEXT_BYTES: usize = PIECE_QUESTIONS * pages::LINE_ROOM + pages::LEFT_ROOM;
 
-// What came of a piece: how many bytes, and whether a read failed after them. Not a `Result`, since both hold at once: bytes came, and then
-// a read failed.
-#[derive(Clone, Copy)]
-struct Input {
-    bytes: usize,
-    has_failed: bool,
-}
-
-impl Input {
-    // The bytes of a piece that are answered: all that came, or after a read that failed those of whole questions only.
-    fn answered_bytes(self) -> usize
-        ensures answered { result ≡ answered_bytes self.has_failed self.bytes }
-        ensures inside { result ≤ self.bytes }
-    {
-        let whole = self.bytes / QUESTION_BYTES * QUESTION_BYTES;
-        if self.has_failed { whole } else { self.bytes }
-    }
+// The bytes of a piece that are answered: all that came, or after a read that failed those of whole questions only.
+fn answered_bytes(input: Input) -> usize
+    ensures answered { result ≡ Run·answered_bytes input.has_failed input.bytes }
+    ensures inside { result ≤ input.bytes }
+{
+    let whole = input.bytes / QUESTION_BYTES * QUESTION_BYTES;
+    if input.has_failed { whole } else { input.bytes }
 }
 
 // What became of a piece: what came of it, and whether its page was written. Not a `Result`, since what came says what the text holds also
@@ -59,60 +53,6 @@ impl Outcome {
         ensures { result ≡ goes_on self.is_written self.input.has_failed self.input.bytes }
     {
         self.is_written && !self.input.has_failed && self.input.bytes == PIECE_BYTES
-    }
-}
-
-// What a read answered: how many bytes came, at most the room; or that it failed.
-fn input_of(got: io::Result<usize>, part: &[u8]) -> io::Result<usize>
-    ensures bytes { IfOk result (λ came. came ≡ clamp_len got (length part.now)) }
-    ensures failed { read_failed result ≡ read_failed got }
-{
-    Ok(got?.min(part.len()))
-}
-
-// Says on standard error what could not be read or written, and why, in the C library's words. std puts the error's number after them,
-// as in " (os error 9)", which is left out where there is memory for the text.
-fn say_failure(rt: &(impl Eprint + AllocGlobal), what: &str, error: io::Error) {
-    let _ = match error.to_string(rt.alloc()) {
-        Ok(text) => match text.as_str().split_once(" (os error ") {
-            Some((why, _)) => eprintln!(rt; "pricecheck: {what}: {why}"),
-            None => eprintln!(rt; "pricecheck: {what}: {text}"),
-        },
-        Err(_) => eprintln!(rt; "pricecheck: {what}: {error}"),
-    };
-}
-
-// Reads once. What a read answers is the system's; the contract says what holds of it: no more bytes came than there is room.
-fn read_some(reader: &mut impl Read, part: &mut [u8]) -> io::Result<usize>
-    ensures { IfOk result (λ came. came ≤ length part.old) }
-{
-    let got = reader.read(part);
-    input_of(got, part)
-}
-
-// Reads until the piece is full, the input ends or a read fails. What comes is the system's; the contract says what holds of it: a piece
-// that came whole came without a failure.
-fn fill(rt: &(impl Eprint + AllocGlobal), reader: &mut impl Read, piece: &mut [u8]) -> Input
-    ensures inside { result.bytes ≤ length piece.old }
-    ensures failed { T result.has_failed → result.bytes < length piece.old }
-{
-    let mut bytes = 0;
-    while bytes < piece.len() {
-        match read_some(reader, &mut piece[bytes..]) {
-            Ok(0) => break,
-            Ok(came) => bytes += came,
-            Err(error) => {
-                say_failure(rt, "standard input", error);
-                return Input {
-                    bytes,
-                    has_failed: true,
-                };
-            }
-        }
-    }
-    Input {
-        bytes,
-        has_failed: false,
     }
 }
 
@@ -159,12 +99,12 @@ fn answer_piece(
 ) -> Outcome
     ensures { EndsWith text.new (page_from (basis_of terms.now) (first_of index) (answered_part result.input.has_failed result.input.bytes piece.new)) }
 {
-    let input = fill(rt, reader, piece);
-    let start = page_of(terms, index, &piece[..input.answered_bytes()], text);
+    let input = fill(rt, PROGRAM, reader, piece);
+    let start = page_of(terms, index, &piece[..answered_bytes(input)], text);
     let is_written = match print(writer, terms, index, piece, input, &text[start..]) {
         Ok(()) => true,
         Err(error) => {
-            say_failure(rt, "standard output", error);
+            say_failure(rt, PROGRAM, "standard output", error);
             false
         }
     };
@@ -189,7 +129,7 @@ fn refuse(
 {
     let start = write_refusal(bad, text);
     if let Err(error) = print_refusal(writer, bad, &text[start..]) {
-        say_failure(rt, "standard output", error);
+        say_failure(rt, PROGRAM, "standard output", error);
     }
 }
 

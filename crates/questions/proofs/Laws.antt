@@ -1,9 +1,13 @@
 -- The laws of specs/Laws.antt, proved. Other crates see them as fields of question_laws.
-use mathlib.Core.Path.{◌≡◌, refl}
-use Prim.Native.Nat.{ℕ, ◌%◌}
+use mathlib.Core.Path.{◌≡◌, refl, ap, ◌∙◌}
+use Prim.Native.Nat.{ℕ, ◌+◌, ◌*◌, ◌%◌}
+use native.Mathlib.Nat.{div-add-mod'}
 use native.Mathlib.Omega.{arith}
 use mathlib.Core.Bool.{Bool, true, false, ◌&&◌}
+use mathlib.Core.List.{◌++◌}
 use lib.Dec.{T, ltb}
+use lib.ListN.{length, take, drop, length-drop}
+use lib.Seq.{take-append-le, drop-append-le, drop-append-add, length-take-le}
 use borrow.Author.Tests.{ltb-true, lt-ltb, ne_eqb, not-false}
 use Rattle.facts.specs.Lists.{holds}
 use Rattle.std.proofs.Math.Bool.{or-false}
@@ -16,9 +20,9 @@ use Rattle.ladder.proofs.Laws.{ladder_laws}
 use Rattle.questions.specs.declared.Reference.{Reference}
 use Rattle.questions.specs.declared.Reference.TheVariants.{Missing, Price}
 use Rattle.questions.specs.Missing.{reference_of, number_of}
-use Rattle.questions.specs.Record.{codes_of, references_of, bytes_of}
+use Rattle.questions.specs.Record.{question_bytes, codes_of, references_of, bytes_of}
 use Rattle.questions.specs.Checks.{any_off}
-use Rattle.questions.specs.Laws.{is_writable, BytesDecode, are_bytes, BytesFit, NoneOutside, CheckedAlike, QuestionLaws}
+use Rattle.questions.specs.Laws.{is_writable, BytesDecode, are_bytes, BytesFit, QuestionsAreWhole, FilesEndToEnd, NoneOutside, CheckedAlike, QuestionLaws}
 
 -- a reference is the reference of its four bytes
 reference_back : (r : Reference) → T (is_writable r) → reference_of (number 0 (four_bytes (number_of r))) ≡ r
@@ -63,6 +67,24 @@ bytes_fit q fits =
       byte_fits,
     )
 
+-- ---- files
+
+questions_are_whole : QuestionsAreWhole
+questions_are_whole s k h =
+    let whole = div-add-mod' (length s) question_bytes in
+    length-take-le question_bytes (drop (k * question_bytes) s) (rw (length-drop (k * question_bytes) s) (omega (arith, h, whole)))
+
+files_end_to_end : FilesEndToEnd
+files_end_to_end s t =
+    record {
+      first = λ k h.
+          ap (take question_bytes) (drop-append-le (k * question_bytes) s t (omega arith)) ∙
+          take-append-le question_bytes (drop (k * question_bytes) s) t (omega (arith, length-drop (k * question_bytes) s, h));
+      second = λ n k h.
+          let place : (n + k) * question_bytes ≡ length s + k * question_bytes = omega (arith, h) in
+          ap (take question_bytes) (ap (λ (i : ℕ). drop i (s ++ t)) place ∙ drop-append-add s t (k * question_bytes));
+    }
+
 -- ---- check 3
 
 none_outside : NoneOutside
@@ -77,4 +99,11 @@ checked_alike t wf r close nominal = rw (close, nominal, none_outside t wf r.pre
 
 pub question_laws : QuestionLaws
 question_laws =
-    record { bytes_decode = bytes_decode; bytes_fit = bytes_fit; none_outside = none_outside; checked_alike = checked_alike }
+    record {
+      bytes_decode = bytes_decode;
+      bytes_fit = bytes_fit;
+      questions_are_whole = questions_are_whole;
+      files_end_to_end = files_end_to_end;
+      none_outside = none_outside;
+      checked_alike = checked_alike;
+    }

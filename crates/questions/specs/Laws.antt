@@ -1,6 +1,6 @@
--- The laws of a question's bytes, and of check 3. Each is a field of the record QuestionLaws at the end, which proofs/Laws.antt proves as
--- question_laws: BytesDecode is the field bytes_decode.
-use Rattle.std.specs.Prelude.{◌≡◌, ◌<◌, Bool, true, false, ◌&&◌, ◌||◌, [], ◌∷◌, T, ltb, Some}
+-- The laws of a question's bytes, of files of questions, and of check 3. Each is a field of the record QuestionLaws at the end, which
+-- proofs/Laws.antt proves as question_laws: BytesDecode is the field bytes_decode.
+use Rattle.std.specs.Prelude.{◌≡◌, ℕ, suc, ◌+◌, ◌*◌, ◌≤◌, ◌<◌, Bool, true, false, ◌&&◌, ◌||◌, [], ◌∷◌, ◌++◌, T, ltb, length, Some}
 use Rattle.little_endian.specs.Numbers.{Bytes}
 use Rattle.little_endian.specs.Laws.{byte_bound, number_bound}
 use Rattle.tables.specs.Bands.{Table, well_formed}
@@ -9,7 +9,7 @@ use Rattle.questions.specs.declared.Reference.{Reference}
 use Rattle.questions.specs.declared.Reference.TheVariants.{Missing, Price}
 use Rattle.questions.specs.declared.References.{References}
 use Rattle.questions.specs.declared.Question.{Question}
-use Rattle.questions.specs.Record.{decoded, bytes_of}
+use Rattle.questions.specs.Record.{question_bytes, count_of, question_at, decoded, bytes_of}
 use Rattle.questions.specs.Checks.{is_off, lies_outside, any_off}
 
 -- a reference that four bytes can hold: it is missing, or a price above 0, since 0 means missing
@@ -46,6 +46,20 @@ are_bytes (b ∷ rest) = ltb b byte_bound && are_bytes rest
 abbrev pub BytesFit : Type 0
 BytesFit = (q : Question) → Fits q → are_bytes (bytes_of q) ≡ true
 
+-- ---- files
+
+-- The questions of a file have as many bytes as a question has.
+abbrev pub QuestionsAreWhole : Type 0
+QuestionsAreWhole = (s : Bytes) (k : ℕ) → k < count_of (length s) → length (question_at k s) ≡ question_bytes
+
+-- Of two files end to end the questions are those of the first, if it has no bytes left over, and then those of the second.
+pub record EndToEnd (s t : Bytes) : Type 0 where
+  pub first : (k : ℕ) → suc k * question_bytes ≤ length s → question_at k (s ++ t) ≡ question_at k s
+  pub second : (n k : ℕ) → length s ≡ n * question_bytes → question_at (n + k) (s ++ t) ≡ question_at k t
+
+abbrev pub FilesEndToEnd : Type 0
+FilesEndToEnd = (s t : Bytes) → EndToEnd s t
+
 -- ---- check 3
 
 -- A ladder price does not lie outside the ends. So where previous close and nominal are ladder prices or missing, check 3 is one question put
@@ -65,5 +79,7 @@ CheckedAlike =
 pub record QuestionLaws : Type 0 where
   pub bytes_decode : BytesDecode
   pub bytes_fit : BytesFit
+  pub questions_are_whole : QuestionsAreWhole
+  pub files_end_to_end : FilesEndToEnd
   pub none_outside : NoneOutside
   pub checked_alike : CheckedAlike

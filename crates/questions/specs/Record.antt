@@ -24,11 +24,15 @@ security_byte = 40
 abbrev pub security_code_of : Bytes → ℕ
 security_code_of s = number security_byte s
 
--- "Byte 0 is the side .. byte 1 the order type .. byte 2 the queue code .. byte 3 is zero." And the security code, which is a code too
+-- "Byte 0 is the side"
+abbrev pub side_of : Bytes → ℕ
+side_of s = get_or s 0 0
+
+-- ".. byte 1 the order type .. byte 2 the queue code .. byte 3 is zero." And the security code, which is a code too
 unfoldable pub codes_of : Bytes → Codes
 codes_of s =
     record {
-      side = get_or s 0 0;
+      side = side_of s;
       order_type = get_or s 1 0;
       queue = get_or s 2 0;
       byte_3 = get_or s 3 0;

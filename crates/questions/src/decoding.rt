@@ -2,7 +2,7 @@
 ghost use Rattle.std.specs.Prelude.{◌≡◌, ◌+◌, ◌≤◌, length};
 ghost use Rattle.little_endian.specs.Numbers.{number};
 ghost use Rattle.questions.specs.Missing.{reference_of};
-ghost use Rattle.questions.specs.Record.{security_byte, security_code_of, price_byte, codes_of, price_of, references_of, decoded};
+ghost use Rattle.questions.specs.Record.{security_byte, security_code_of, side_of, price_byte, codes_of, price_of, references_of, decoded};
 
 use super::{Codes, QUESTION_BYTES, Question, Reference, References};
 
@@ -14,12 +14,20 @@ pub fn security_code_of(s: &[u8]) -> u32
     little_endian::number_at(s, 40)
 }
 
+// The side of a question, whatever number stands there.
+pub fn side_of(s: &[u8]) -> u8
+    requires { 1 ≤ length s.now }
+    ensures { result ≡ side_of s.now }
+{
+    s[0]
+}
+
 #[tactic(auto, unfolding(crate::specs::Record::codes_of))]
 fn codes_of(s: &[u8; QUESTION_BYTES]) -> Codes
     ensures { result ≡ codes_of s.now }
 {
     Codes {
-        side: s[0],
+        side: side_of(s),
         order_type: s[1],
         queue: s[2],
         byte_3: s[3],

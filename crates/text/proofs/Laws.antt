@@ -4,12 +4,13 @@ use Prim.Native.Nat.{ℕ, zero, suc, ◌+◌, ◌*◌, ◌-◌, ◌/◌, ◌%◌
 use native.Mathlib.Nat.{pow-succ'}
 use native.Mathlib.Omega.{arith}
 use mathlib.Core.Bool.{Bool, true, false, ◌&&◌}
-use mathlib.Core.List.{[], ◌∷◌, ◌++◌}
+use mathlib.Core.List.{[], ◌∷◌, ◌++◌, append-nil}
 use lib.Dec.{T, ltb, leb}
-use lib.ListN.{length, get_or, length-append, get_or-append}
+use lib.ListN.{length, get_or, take, drop, length-append, get_or-append}
+use lib.Seq.{drop_at, drop-length, length-take-le}
 use borrow.Author.Tests.{ltb-true, ltb-false, le-leb}
-use Rattle.text.specs.Decimal.{Text, digit, decimal}
-use Rattle.text.specs.Laws.{DecimalIs, value_after, are_digits, Decimal, DecimalReadsBack, DecimalIsShort, WrittenInFront, TextLaws}
+use Rattle.text.specs.Decimal.{Text, digit, decimal, field}
+use Rattle.text.specs.Laws.{DecimalIs, value_after, are_digits, Decimal, DecimalReadsBack, DecimalIsShort, NumbersAreShort, WrittenInFront, StandsAtEnd, TextLaws}
 use Rattle.text.proofs.Decimals as decimals
 use Rattle.text.proofs.Decimals.{one_digit, last_digit, has_digits, by_digits}
 use Rattle.text.proofs.Parts as parts
@@ -75,10 +76,30 @@ decimal_is_short (suc (suc k)) n h m = go (decimal_is_short (suc k) (n / 10)) (l
         let less : n / 10 < 10 ^ suc k = omega (arith, pow-succ' 10 (suc k), m) in
         rw (last_digit n (ltb-false n 10 e)) (omega (arith, length-append (decimal (n / 10)) (digit (n % 10) ∷ []), tenth (omega arith) less))
 
+numbers_are_short : NumbersAreShort
+numbers_are_short n after =
+    record { of_64_bits = λ h. short 20 (omega arith) (omega arith); of_32_bits = λ h. short 10 (omega arith) (omega arith) }
+  where
+    short : (k : ℕ) → 0 < k → n < 10 ^ k → length (field n after) ≤ suc k
+    short k h m = omega (arith, length-append (decimal n) (after ∷ []), decimal_is_short k n h m)
+
 -- ---- written
 
 written_in_front : WrittenInFront
 written_in_front = parts.written_in_front
+
+stands_at_end : StandsAtEnd
+stands_at_end x text =
+    record {
+      inside =
+          omega (arith, length-append (take (length text - length x) text) (x ++ drop (length text) text), front);
+      is_x =
+          drop_at (take (length text - length x) text) (x ++ drop (length text) text) (length text - length x) front ∙
+          rw (drop-length text) (append-nil x);
+    }
+  where
+    front : length (take (length text - length x) text) ≡ length text - length x
+    front = length-take-le (length text - length x) text (omega arith)
 
 pub text_laws : TextLaws
 text_laws =
@@ -86,6 +107,8 @@ text_laws =
       decimal_is = decimal_is;
       decimal_reads_back = decimal_reads_back;
       decimal_is_short = decimal_is_short;
+      numbers_are_short = numbers_are_short;
       written_in_front = written_in_front;
+      stands_at_end = stands_at_end;
       filled_by_parts = filled_by_parts;
     }

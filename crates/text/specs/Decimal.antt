@@ -22,6 +22,13 @@ up_to (suc most) n = cond (ltb n 10) (digit n ∷ []) (up_to most (n / 10) ++ (d
 unfoldable pub decimal : ℕ → Text
 decimal n = up_to (suc n) n
 
+-- the characters that stand after a number, between two of a line and at its end
+abbrev pub blank : ℕ
+blank = 32
+
+abbrev pub newline : ℕ
+newline = 10
+
 -- a number, and a character after it
 abbrev pub field : ℕ → ℕ → Text
 field n after = decimal n ++ (after ∷ [])

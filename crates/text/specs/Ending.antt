@@ -1,11 +1,16 @@
 -- Text that is filled from its end.
-use Rattle.std.specs.Prelude.{◌≡◌, ℕ, ◌+◌, ◌-◌, ◌++◌, length, take, drop}
+use Rattle.std.specs.Prelude.{◌≡◌, ℕ, ◌+◌, ◌-◌, ◌≤◌, ◌++◌, length, take, drop}
 use Rattle.text.specs.Decimal.{Text}
 use Rattle.text.specs.declared.Filling.{Filling}
 
 -- the text s once x is written into it, so that x ends before `end`
 abbrev pub ending_at : ℕ → Text → Text → Text
 ending_at end x s = take (end - length x) s ++ (x ++ drop end s)
+
+-- from `start` to its end a text is x, and nothing else
+pub record StandsFrom (start : ℕ) (x text : Text) : Type 0 where
+  pub inside : start ≤ length text
+  pub is_x : drop start text ≡ x
 
 -- x is written in front: it ends where the text started before, and every other character of the room is kept. It is the same room, so that
 -- who lent it knows what it then holds.

@@ -1,9 +1,9 @@
 -- The laws of text. Each is a field of the record TextLaws at the end, which proofs/Laws.antt proves as text_laws: DecimalIs is the field
 -- decimal_is.
 use Rattle.std.specs.Prelude.{◌≡◌, ℕ, ◌+◌, ◌*◌, ◌-◌, ◌/◌, ◌%◌, ◌^◌, ◌<◌, ◌≤◌, Bool, true, cond, ◌&&◌, [], ◌∷◌, ◌++◌, T, ltb, leb, length, get_or}
-use Rattle.text.specs.Decimal.{Text, digit, decimal}
+use Rattle.text.specs.Decimal.{Text, digit, decimal, field}
 use Rattle.text.specs.declared.Filling.{Filling}
-use Rattle.text.specs.Ending.{Written, Filled}
+use Rattle.text.specs.Ending.{ending_at, StandsFrom, Written, Filled}
 
 -- One digit, or the last one after those of a tenth.
 abbrev pub DecimalIs : Type 0
@@ -33,9 +33,21 @@ DecimalReadsBack = (n : ℕ) → Decimal n
 abbrev pub DecimalIsShort : Type 0
 DecimalIsShort = (k n : ℕ) → 0 < k → n < 10 ^ k → length (decimal n) ≤ k
 
+-- With the character after it, a number of 64 bits has no more than 21 characters, one of 32 bits no more than 11.
+pub record Short (n after : ℕ) : Type 0 where
+  pub of_64_bits : n < 18446744073709551616 → length (field n after) ≤ 21
+  pub of_32_bits : n < 4294967296 → length (field n after) ≤ 11
+
+abbrev pub NumbersAreShort : Type 0
+NumbersAreShort = (n after : ℕ) → Short n after
+
 -- What is written, and then what is written in front of it, are written as one.
 abbrev pub WrittenInFront : Type 0
 WrittenInFront = (x y : Text) (was next now : Filling) → Written x was next → Written y next now → Written (y ++ x) was now
+
+-- What is written into a text in which nothing is written yet stands from there to its end.
+abbrev pub StandsAtEnd : Type 0
+StandsAtEnd = (x text : Text) → StandsFrom (length text - length x) x (ending_at (length text) x text)
 
 -- A text is filled from its end, part by part: it begins with nothing written; what is left fits; once the last part x of it is written, the
 -- text is filled further; the room keeps its length; and where nothing is left, all that was to be written is written.
@@ -56,5 +68,7 @@ pub record TextLaws : Type 0 where
   pub decimal_is : DecimalIs
   pub decimal_reads_back : DecimalReadsBack
   pub decimal_is_short : DecimalIsShort
+  pub numbers_are_short : NumbersAreShort
   pub written_in_front : WrittenInFront
+  pub stands_at_end : StandsAtEnd
   pub filled_by_parts : FilledByParts

@@ -1,8 +1,8 @@
 -- No line, or a word and a number.
 use Rattle.std.proofs.Common.{◌≡◌, ℕ, suc, ◌-◌, ◌≤◌, [], ◌∷◌, ◌++◌, refl, arith}
-use Rattle.text.specs.Decimal.{field}
+use Rattle.text.specs.Decimal.{blank, newline, field}
 use Rattle.text.proofs.Laws.{text_laws}
-use Rattle.pages.specs.Lines.{blank, newline, left_line}
+use Rattle.pages.specs.Lines.{left_line}
 use Rattle.pages.proofs.lines.put_left.Goals as goal
 
 left_is : (k : ℕ) → 1 ≤ k → left_line k ≡ (108 ∷ 101 ∷ 102 ∷ 116 ∷ blank ∷ []) ++ field k newline

@@ -1,6 +1,6 @@
 -- Each read that moves a byte leaves fewer to come.
 use Rattle.std.proofs.Common.{◌-◌, ◌≤◌, length}
-use Rattle.pricecheck.proofs.fill.Given as goal
+use Rattle.pieces.proofs.fill.Given as goal
 
 abbrev pub invariant-loop-bytes : goal.invariant-loop-bytes
 invariant-loop-bytes g l = l.bytes ≤ length l.piece
