@@ -6,7 +6,7 @@
 
 PREFIX = /usr/local
 DESTDIR =
-VERSION = 2.1.0
+VERSION = 2.1.1
 
 CFLAGS = -O2
 STRICT = -std=c11 -Wall -Wextra -Wpedantic -Wconversion -Werror
@@ -22,7 +22,7 @@ PLAIN_HEADERS = $(wildcard host/plain/*.h host/draw/*.h)
 TESTS = $(wildcard host/tests/*.c)
 ASK = $(wildcard tools/*.c)
 BENCH = $(addprefix bench/, bench.c programs.c days.c prepared.c mixes.c quick.c quick_day.c)
-LINES = build/plaincheck build/plainreport build/drawn build/dribble build/breaks build/memory
+LINES = build/plaincheck build/plainreport build/moves build/drawn build/dribble build/breaks build/memory
 QUICK = build/quickcheck build/quickreport
 INCLUDES = -Iinclude -Ihost/plain -Ihost/draw
 

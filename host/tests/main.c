@@ -10,6 +10,7 @@ int main(void)
     test_interface();
     test_ladder();
     test_prices();
+    test_moves();
     test_bands();
     test_tables();
     test_unknown();

@@ -7,6 +7,7 @@
 void test_interface(void); /* interface.c: the header's own functions */
 void test_ladder(void);    /* ladder.c: every place, steps by any number */
 void test_prices(void);    /* prices.c: every price, steps and limits */
+void test_moves(void);     /* moves.c: how far one spread moves a limit */
 void test_bands(void);     /* bands.c: the band of every price */
 void test_judging(void);   /* judging.c: questions and trades */
 void test_prepared(void);  /* prepared.c: questions judged in two parts */

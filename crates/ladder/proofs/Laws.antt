@@ -18,10 +18,10 @@ use Rattle.ladder.specs.Places.{price_at, place_from, place_of, last_after, firs
 use Rattle.ladder.specs.Trying.{order, lands}
 use Rattle.ladder.specs.Spreads.{spread_up, spread_down, times, if_within}
 use Rattle.ladder.specs.Laws.{TheTables, SameEnds, Nothing, NothingOnUnknown, TheLadder, LadderRises, EndsAreTheTables, NeverZero, PlacesAreInverse}
-use Rattle.ladder.specs.Laws.{FoundHolds, MoreFind, ThreeFind, NoBandOnUnknown}
+use Rattle.ladder.specs.Laws.{BandsInOrder, FoundHolds, MoreFind, ThreeFind, NoBandOnUnknown}
 use Rattle.ladder.specs.Laws.{Extreme, Least, Greatest, NonePasses, Finds, FirstIsSmallest, LatestIsLargest}
-use Rattle.ladder.specs.Laws.{SpreadUpIsNext, SpreadDownIsPrevious, FirstToTheNearest, SpreadsStay, OnlyWithinTheEnds, NThenM, GoingByPlaces, UpThenDown}
-use Rattle.ladder.specs.Laws.{SpreadsKeepOrder, RoundingKeepsOrder, LadderLaws}
+use Rattle.ladder.specs.Laws.{SpreadUpIsNext, SpreadOfTheBandAbove, SpreadDownIsPrevious, FirstToTheNearest, SpreadsStay, OnlyWithinTheEnds}
+use Rattle.ladder.specs.Laws.{NThenM, GoingByPlaces, UpThenDown, SpreadsKeepOrder, RoundingKeepsOrder, LadderLaws}
 use Rattle.tables.proofs.Laws.{table_laws}
 use Rattle.ladder.proofs.ByNumber.{none, no_band}
 use Rattle.ladder.proofs.Lists.Ends.{over_first, under_last, first_held, last_held, Within, within, not_outside, held_within}
@@ -34,8 +34,10 @@ use Rattle.ladder.proofs.Lists.Order.{spreads_up_order, spreads_down_order, at_l
 use Rattle.ladder.proofs.Tables.Table.{start, start_held, table_facts, first_is_start, last_is_top, ladder_rises as rises}
 use Rattle.ladder.proofs.Lists.Finding.{found_longer}
 use Rattle.ladder.proofs.Tables.Members.{the_members}
+use Rattle.ladder.proofs.Tables.Landing.{ends_before}
 use Rattle.ladder.proofs.Tables.Trying.{Busy, one_lands, found_held, three_find as busy_three}
 use Rattle.ladder.proofs.Tables.Stands.{found_all}
+use Rattle.ladder.proofs.Tables.NextUp.{up_in_band}
 
 -- counted once for each table, by computation
 the_tables : TheTables
@@ -118,7 +120,10 @@ places_are_inverse t wf =
     place : (k p : ℕ) → price_at k (ladder t) ≡ Some p → place_of p (ladder t) ≡ Some k
     place k p e = place_of_entry (ladder t) (rises t wf) 0 k p e ∙ ap Some (zero-add k)
 
--- ---- the band of a price
+-- ---- bands, and the band of a price
+
+bands_in_order : BandsInOrder
+bands_in_order t wf j k less there = omega (arith, ends_before (start t) t (table_facts t wf).chain j k less there)
 
 found_holds : FoundHolds
 found_holds t p allowed k e = let r = found_held t p allowed k e in record { index = r.0; held = r.1 }
@@ -189,6 +194,9 @@ spread_up_is_next t wf p =
       moves = λ x on over. moved t wf Least (above p) p _ by x on (lt→ltb p x over);
       stays = λ top. stayed t wf Least (above p) p _ by (λ q on m. absurd (omega (arith, top q on, ltb→lt p q m)));
     }
+
+spread_of_the_band_above : SpreadOfTheBandAbove
+spread_of_the_band_above t wf p on = up_in_band t wf p (listed t wf p on)
 
 spread_down_is_previous : SpreadDownIsPrevious
 spread_down_is_previous t wf p =
@@ -330,6 +338,7 @@ ladder_laws =
       ends_are_the_tables = ends_are_the_tables;
       never_zero = never_zero;
       places_are_inverse = places_are_inverse;
+      bands_in_order = bands_in_order;
       found_holds = found_holds;
       one_holds = one_lands;
       more_find = more_find;
@@ -339,6 +348,7 @@ ladder_laws =
       first_is_smallest = first_is_smallest;
       latest_is_largest = latest_is_largest;
       spread_up_is_next = spread_up_is_next;
+      spread_of_the_band_above = spread_of_the_band_above;
       spread_down_is_previous = spread_down_is_previous;
       first_to_the_nearest = first_to_the_nearest;
       spreads_stay = spreads_stay;

@@ -5,6 +5,7 @@ pub mod Members
 pub mod Landing
 pub mod Trying
 pub mod Stands
+pub mod NextUp
 pub mod Nearest
 pub mod Starts
 pub mod Walks

@@ -96,7 +96,12 @@ pub record Inverse (t : Table) : Type 0 where
 abbrev pub PlacesAreInverse : Type 0
 PlacesAreInverse = (t : Table) → T (well_formed t) → Inverse t
 
--- ---- the band of a price
+-- ---- bands, and the band of a price
+
+-- Bands are in order: each ends at or below where any later one starts.
+abbrev pub BandsInOrder : Type 0
+BandsInOrder =
+    (t : Table) → T (well_formed t) → (j k : ℕ) → j < k → k < length t → (get_or t j no_band).top ≤ (get_or t k no_band).bottom
 
 -- A band that is found is a band of the table and holds the price: whatever the table, and however few bands may be tried.
 pub record IsHeld (t : Table) (p k : ℕ) : Type 0 where
@@ -167,6 +172,18 @@ pub record SingleUp (t : Table) (p : ℕ) : Type 0 where
 
 abbrev pub SpreadUpIsNext : Type 0
 SpreadUpIsNext = (t : Table) → T (well_formed t) → (p : ℕ) → SingleUp t p
+
+-- A spread up is that of the band above: from a ladder price below the last it leads up by the spread of a band that goes on above the price, and
+-- no further than that band's top.
+pub record UpInBand (t : Table) (p k : ℕ) : Type 0 where
+  pub there : k < length t
+  pub over : (get_or t k no_band).bottom ≤ p
+  pub by_spread : spread_up (ladder t) p ≡ p + (get_or t k no_band).spread
+  pub up_to : spread_up (ladder t) p ≤ (get_or t k no_band).top
+
+abbrev pub SpreadOfTheBandAbove : Type 0
+SpreadOfTheBandAbove =
+    (t : Table) → T (well_formed t) → (p : ℕ) → T (is_ladder_price p t) → p < last_price (ladder t) → (k : ℕ) × UpInBand t p k
 
 -- A single spread down is the largest ladder price below p, and stays where there is none.
 pub record SingleDown (t : Table) (p : ℕ) : Type 0 where
@@ -262,6 +279,7 @@ pub record LadderLaws : Type 0 where
   pub ends_are_the_tables : EndsAreTheTables
   pub never_zero : NeverZero
   pub places_are_inverse : PlacesAreInverse
+  pub bands_in_order : BandsInOrder
   pub found_holds : FoundHolds
   pub one_holds : OneHolds
   pub more_find : MoreFind
@@ -271,6 +289,7 @@ pub record LadderLaws : Type 0 where
   pub first_is_smallest : FirstIsSmallest
   pub latest_is_largest : LatestIsLargest
   pub spread_up_is_next : SpreadUpIsNext
+  pub spread_of_the_band_above : SpreadOfTheBandAbove
   pub spread_down_is_previous : SpreadDownIsPrevious
   pub first_to_the_nearest : FirstToTheNearest
   pub spreads_stay : SpreadsStay

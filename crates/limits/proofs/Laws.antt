@@ -7,17 +7,24 @@ use native.Mathlib.Omega.{arith}
 use mathlib.Core.Bool.{false}
 use lib.Dec.{T, le→leb}
 use Rattle.facts.proofs.Numbers.{of_smaller, of_larger}
-use Rattle.tables.specs.Bands.{Table}
+use Rattle.tables.specs.Bands.{Table, well_formed}
 use Rattle.tables.specs.Named.{table_named}
+use Rattle.tables.specs.Growth.{grows_slowly}
+use Rattle.tables.proofs.Laws.{table_laws}
 use Rattle.ladder.specs.Named.{ladder_named}
 use Rattle.limits.proofs.ByNumber.{with_a_price}
 use Rattle.ladder.specs.Ladder.{Prices, ladder, is_ladder_price}
 use Rattle.ladder.specs.Search.{first, latest, or_else, at_least, at_most}
 use Rattle.ladder.specs.Places.{is_outside}
-use Rattle.ladder.specs.Spreads.{if_within}
+use Rattle.ladder.specs.Spreads.{times, if_within}
 use Rattle.ladder.proofs.Laws.{ladder_laws}
 use Rattle.limits.specs.Limits.{limit_spreads, five_percent, lower_limit, upper_limit}
-use Rattle.limits.specs.Laws.{PercentageFinds, LimitsEnclose, LimitsAreOrdered, NoSmaller, HigherReference, NoLimitOnUnknown, LimitLaws}
+use Rattle.limits.specs.Moves.{UpAtMost, AnswersMove}
+use Rattle.limits.specs.Laws.{PercentageFinds, LimitsEnclose, LimitsAreOrdered, NoSmaller, HigherReference, NoLimitOnUnknown, LimitsMoveLittle}
+use Rattle.limits.specs.Laws.{OneSpreadMovesLittle, LimitLaws}
+use Rattle.limits.proofs.Steps.{up, more}
+use Rattle.limits.proofs.Moving.{moves_little, lower_moves, upper_moves}
+use Rattle.limits.proofs.Reached.{bounds_are_reached}
 
 -- a search that cannot find nothing finds a price
 finds : (f : Option ℕ) → (f ≡ None → ⊥) → (q : ℕ) × (f ≡ Some q)
@@ -101,6 +108,59 @@ no_limit_on_unknown n r unknown =
     let outside = (ladder_laws.nothing_on_unknown n unknown).outside r in
     record { no_lower = rw outside refl; no_upper = rw outside refl; no_percent_lower = rw outside refl; no_percent_upper = rw outside refl }
 
+-- ---- one spread more
+
+module _ (t : Table) (wf : T (well_formed t)) (slow : T (grows_slowly t)) (r : ℕ) (w : is_outside r (ladder t) ≡ false) where
+  abbrev l : Prices
+  l = ladder t
+
+  lower_moves_little : UpAtMost l 3 (lower_limit l five_percent r) (lower_limit l five_percent (up t wf r))
+  lower_moves_little =
+      moves_little t wf (lower_limit l five_percent) 3 (λ p v. (limits_enclose t wf five_percent p v).lower_on)
+      (λ p q m. (limits_are_ordered t wf five_percent p q m).lower) (lower_moves t wf slow) r w
+
+  upper_moves_little : UpAtMost l 2 (upper_limit l five_percent r) (upper_limit l five_percent (up t wf r))
+  upper_moves_little =
+      moves_little t wf (upper_limit l five_percent) 2 (λ p v. (limits_enclose t wf five_percent p v).upper_on)
+      (λ p q m. (limits_are_ordered t wf five_percent p q m).upper) (upper_moves t wf slow) r w
+
+limits_move_little : LimitsMoveLittle
+limits_move_little t wf slow r w =
+    record {
+      lower = more (ladder t) 3 _ _ _ (omega arith) (lower_moves_little t wf slow r w);
+      upper = more (ladder t) 2 _ _ _ (omega arith) (upper_moves_little t wf slow r w);
+    }
+
+-- what a call answers for two prices within the ends, where one limit of theirs is at most n spreads up from the other
+answers_move : (l : Prices) (limit : ℕ → ℕ) (n r next : ℕ) → is_outside r l ≡ false → is_outside next l ≡ false → UpAtMost l n (limit r) (limit next) →
+    AnswersMove l (λ p. if_within p l (limit p)) n r next
+answers_move l limit n r next v w moves =
+    record {
+      from = limit r;
+      to = limit next;
+      of_r = (ladder_laws.only_within_the_ends r l (limit r)).within v;
+      of_next = (ladder_laws.only_within_the_ends next l (limit next)).within w;
+      moves = moves;
+    }
+
+one_spread_moves_little : OneSpreadMovesLittle
+unfolding times
+one_spread_moves_little n r w =
+    let t = table_named n in
+    let l = ladder_named n in
+    let wf = with_a_price n r w in
+    let next = up t wf r in
+    let v = (ladder_laws.ends_are_the_tables t wf).none_outside next ((ladder_laws.spreads_stay t wf 0 r).up_lands w) in
+    let slow = table_laws.named_grow_slowly n in
+    record {
+      next = next;
+      up = (ladder_laws.only_within_the_ends r l next).within w;
+      lower = answers_move l (lower_limit l five_percent) _ r next w v (more l 3 _ _ _ (omega arith) (lower_moves_little t wf slow r w));
+      upper = answers_move l (upper_limit l five_percent) _ r next w v (more l 2 _ _ _ (omega arith) (upper_moves_little t wf slow r w));
+    }
+
+-- ---- all of them
+
 pub limit_laws : LimitLaws
 limit_laws =
     record {
@@ -109,4 +169,7 @@ limit_laws =
       limits_are_ordered = limits_are_ordered;
       higher_reference = higher_reference;
       no_limit_on_unknown = no_limit_on_unknown;
+      limits_move_little = limits_move_little;
+      one_spread_moves_little = one_spread_moves_little;
+      bounds_are_reached = bounds_are_reached;
     }

@@ -2,13 +2,16 @@
 -- the field limits_are_ordered.
 use Rattle.std.specs.Prelude.{◌≡◌, ℕ, ◌*◌, ◌≤◌, true, false, T, Option, Some, None}
 use Rattle.tables.specs.Bands.{Table, well_formed}
-use Rattle.tables.specs.Named.{unknown_table}
+use Rattle.tables.specs.Named.{phase1, unknown_table}
+use Rattle.tables.specs.Growth.{grows_slowly}
 use Rattle.ladder.specs.Ladder.{Prices, ladder, is_ladder_price}
 use Rattle.ladder.specs.Named.{ladder_named}
 use Rattle.ladder.specs.Search.{first, latest, at_least, at_most}
 use Rattle.ladder.specs.Places.{is_outside}
+use Rattle.ladder.specs.Spreads.{spread_up}
 use Rattle.limits.specs.declared.Percentage.{Percentage}
 use Rattle.limits.specs.Limits.{five_percent, lower_limit, upper_limit, lower_limit_found, upper_limit_found, percent_lower_found, percent_upper_found}
+use Rattle.limits.specs.Moves.{MovesLittle, OneSpread, Takes}
 
 -- A percentage limit of a price within the ends always finds a price, where the percentage is taken off for the lower limit and added for the
 -- upper one, as at 5 percent: for the lower limit the last ladder price passes, for the upper the first. The end of the ladder stands in only at
@@ -66,6 +69,29 @@ pub record NoLimit (l : Prices) (r : ℕ) : Type 0 where
 abbrev pub NoLimitOnUnknown : Type 0
 NoLimitOnUnknown = (n r : ℕ) → unknown_table n ≡ true → NoLimit (ladder_named n) r
 
+-- ---- one spread more
+
+-- "One argument serves the tables": over any well-formed table whose spreads grow slowly the limits of every price within the ends move little;
+-- of every ladder price, as is asked, and of a price between two, which moves up to the nearest one.
+abbrev pub LimitsMoveLittle : Type 0
+LimitsMoveLittle = (t : Table) → T (well_formed t) → T (grows_slowly t) → (r : ℕ) → is_outside r (ladder t) ≡ false → MovesLittle t r
+
+-- The spreads of each table that a number names grow slowly (tables law NamedGrowSlowly), so the limits that the calls answer on it move little.
+abbrev pub OneSpreadMovesLittle : Type 0
+OneSpreadMovesLittle = (table r : ℕ) → is_outside r (ladder_named table) ≡ false → OneSpread table r
+
+-- "The lower limit from 50.00 to 50.05 and the upper from 10.19 to 10.20, both on Phase 1, reach the bounds": the next price, both limits, and how
+-- many spreads it takes from the one to the other. (So the two limits that are compared are those of two references.)
+pub record BoundsAreReached : Type 0 where
+  pub next_of_50_00 : spread_up (ladder phase1) 50000 ≡ 50050
+  pub lower_of_50_00 : lower_limit (ladder phase1) five_percent 50000 ≡ 47500
+  pub lower_of_50_05 : lower_limit (ladder phase1) five_percent 50050 ≡ 47560
+  pub lower_takes_three : Takes (ladder phase1) 3 47500 47560
+  pub next_of_10_19 : spread_up (ladder phase1) 10190 ≡ 10200
+  pub upper_of_10_19 : upper_limit (ladder phase1) five_percent 10190 ≡ 10690
+  pub upper_of_10_20 : upper_limit (ladder phase1) five_percent 10200 ≡ 10710
+  pub upper_takes_two : Takes (ladder phase1) 2 10690 10710
+
 -- ---- all of them
 
 pub record LimitLaws : Type 0 where
@@ -74,3 +100,6 @@ pub record LimitLaws : Type 0 where
   pub limits_are_ordered : LimitsAreOrdered
   pub higher_reference : HigherReference
   pub no_limit_on_unknown : NoLimitOnUnknown
+  pub limits_move_little : LimitsMoveLittle
+  pub one_spread_moves_little : OneSpreadMovesLittle
+  pub bounds_are_reached : BoundsAreReached

@@ -4,7 +4,8 @@ use mathlib.Core.Path.{refl}
 use native.Mathlib.Omega.{arith}
 use Rattle.tables.specs.Bands.{Table, chained, well_formed}
 use Rattle.tables.specs.Named.{before_phase1, phase1, phase2, table_named}
-use Rattle.tables.specs.Laws.{NamedTables, Edges, SameEdges, TableLaws}
+use Rattle.tables.specs.Growth.{grows_slowly}
+use Rattle.tables.specs.Laws.{NamedTables, Edges, SameEdges, NamedGrowSlowly, TableLaws}
 
 -- by what is tested: the number is 1, 2, 3. Each table is tested once, by computation
 abbrev pick_table : Bool → Bool → Bool → Table
@@ -30,6 +31,13 @@ picked_none false true three e = absurd (grind arith)
 picked_none false false true e = absurd (grind arith)
 picked_none false false false e = refl
 
+picked_slow : (one two three : Bool) → T (grows_slowly (pick_table one two three))
+unfolding before_phase1 phase1 phase2 grows_slowly
+picked_slow true two three = tt
+picked_slow false true three = tt
+picked_slow false false true = tt
+picked_slow false false false = tt
+
 named_tables : NamedTables
 unfolding table_named
 named_tables n =
@@ -42,5 +50,10 @@ same_edges : SameEdges
 unfolding table_named
 same_edges n = picked_edges (eqb n 1) (eqb n 2) (eqb n 3)
 
+named_grow_slowly : NamedGrowSlowly
+unfolding table_named
+named_grow_slowly n = picked_slow (eqb n 1) (eqb n 2) (eqb n 3)
+
 pub table_laws : TableLaws
-table_laws = record { named_tables = named_tables; same_edges = same_edges; usual_is_named = refl }
+table_laws =
+    record { named_tables = named_tables; same_edges = same_edges; usual_is_named = refl; named_grow_slowly = named_grow_slowly }

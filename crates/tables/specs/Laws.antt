@@ -3,6 +3,7 @@
 use Rattle.std.specs.Prelude.{◌≡◌, ℕ, ◌-◌, true, false, [], T, length, get_or}
 use Rattle.tables.specs.Bands.{Table, no_band, well_formed}
 use Rattle.tables.specs.Named.{table_named, unknown_table, usual_table}
+use Rattle.tables.specs.Growth.{grows_slowly}
 
 -- Each table that a number names is well formed, and a number that names none names the empty table.
 pub record NamedBy (n : ℕ) : Type 0 where
@@ -24,9 +25,14 @@ SameEdges = (n : ℕ) → unknown_table n ≡ false → Edges (table_named n) 10
 abbrev pub UsualIsNamed : Type 0
 UsualIsNamed = unknown_table usual_table ≡ false
 
+-- The spreads of each of them grow slowly. (The empty table, which the other numbers name, has none.)
+abbrev pub NamedGrowSlowly : Type 0
+NamedGrowSlowly = (n : ℕ) → T (grows_slowly (table_named n))
+
 -- ---- all of them
 
 pub record TableLaws : Type 0 where
   pub named_tables : NamedTables
   pub same_edges : SameEdges
   pub usual_is_named : UsualIsNamed
+  pub named_grow_slowly : NamedGrowSlowly

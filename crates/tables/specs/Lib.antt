@@ -2,5 +2,6 @@
 -- crates/ladder/specs/Lib.antt.
 pub mod Bands
 pub mod Named
+pub mod Growth
 pub mod Inverses
 pub mod Laws

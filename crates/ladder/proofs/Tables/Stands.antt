@@ -99,7 +99,7 @@ module _ (t : List Band) (wf : T (well_formed t)) (p : ℕ) where
 
   module _ (on : T (holds p (ladder t))) where
     -- between two entries of a band no price is on the ladder
-    held_multiple : (k : ℕ) → Inside t k p → (p - (band_at t k).bottom) % (band_at t k).spread ≡ 0
+    pub held_multiple : (k : ℕ) → Inside t k p → (p - (band_at t k).bottom) % (band_at t k).spread ≡ 0
     held_multiple k l = ⊎_elim (λ e. e) (λ r. absurd (between r)) (eq-zero-or-pos ((p - b.bottom) % b.spread))
       where
         b : Band
