@@ -18,13 +18,15 @@ pub length_encoded : (a : Answer) → length (encoded a) ≡ answer_bytes
 unfolding encoded
 length_encoded a = refl
 
+-- one answer more, whichever it is, is twelve bytes more
+longer : (b : List ℕ) (a : Answer) (n : ℕ) → length b ≡ n * answer_bytes → length (b ++ encoded a) ≡ suc n * answer_bytes
+longer b a n e = length-append b (encoded a) ∙ omega (arith, e, length_encoded a)
+
 module _ (l : List ℕ) (percent : Percentage) (s : List ℕ) where
   pub length_answers : (n : ℕ) → length (answers_to l percent n s) ≡ n * answer_bytes
   unfolding answers_to
   length_answers zero = refl
-  length_answers (suc n) =
-      length-append (answers_to l percent n s) (encoded (judged l percent (question_at n s))) ∙
-      omega (arith, length_answers n, length_encoded (judged l percent (question_at n s)))
+  length_answers (suc n) = longer _ _ n (length_answers n)
 
   -- the next answer takes the place of the next twelve bytes
   pub one_more : (k w : ℕ) (a b x : List ℕ) → w ≡ answer_bytes → b ≡ answered l percent k s a → x ≡ encoded (judged l percent (question_at k s)) →

@@ -18,6 +18,7 @@ impl SpreadTable<'_> {
     }
 
     // The price at a place; none above the last place.
+    #[inline(always)]
     pub fn price_at(&self, place: u32) -> Option<u32>
         ensures { result ≡ price_at place (prices_of self.now) }
     {

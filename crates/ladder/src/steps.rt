@@ -18,7 +18,7 @@ impl SpreadTable<'_> {
     {
         let mut at = price;
         let mut left = n;
-        for band in self.bands[..=index].iter().rev() {
+        for band in self.bands[0..index + 1].iter().rev() {
             match turn_in(left, band.spread, at - band.bottom) {
                 Turn::Ends(mils) => {
                     return at - mils;

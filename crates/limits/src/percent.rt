@@ -31,13 +31,19 @@ impl Terms<'_> {
     pub fn percent_lower(&self, reference: u32) -> Option<u32>
         ensures { result ≡ percent_lower_found (prices_of self.now.table) self.now.percentage reference }
     {
-        (!self.table.is_outside(reference)).then_some(self.rounded_up(reference))
+        if self.table.is_outside(reference) {
+            return None;
+        }
+        Some(self.rounded_up(reference))
     }
 
     // The upper percentage limit; none from a reference outside the ends.
     pub fn percent_upper(&self, reference: u32) -> Option<u32>
         ensures { result ≡ percent_upper_found (prices_of self.now.table) self.now.percentage reference }
     {
-        (!self.table.is_outside(reference)).then_some(self.rounded_down(reference))
+        if self.table.is_outside(reference) {
+            return None;
+        }
+        Some(self.rounded_down(reference))
     }
 }

@@ -15,6 +15,7 @@ use Rattle.text.proofs.Decimals as decimals
 use Rattle.text.proofs.Decimals.{one_digit, last_digit, has_digits, by_digits}
 use Rattle.text.proofs.Parts as parts
 use Rattle.text.proofs.Parts.{filled_by_parts}
+use Rattle.text.proofs.AnyEnd.{filled_to_any_end}
 
 decimal_is : DecimalIs
 decimal_is = decimals.decimal_is
@@ -111,4 +112,5 @@ text_laws =
       written_in_front = written_in_front;
       stands_at_end = stands_at_end;
       filled_by_parts = filled_by_parts;
+      filled_to_any_end = filled_to_any_end;
     }

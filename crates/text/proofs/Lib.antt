@@ -1,4 +1,6 @@
--- Laws: what other crates see. Decimals: numbers digit by digit. Parts: a text that is filled from its end, part by part.
+-- Laws: what other crates see. Decimals: numbers digit by digit. AnyEnd, Parts: a text that is filled from its end, part by part, as a list and
+-- as a `Filling`.
 pub mod Laws
 mod Parts
+mod AnyEnd
 mod Decimals

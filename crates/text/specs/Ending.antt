@@ -24,3 +24,11 @@ pub record Filled (all rest : Text) (was now : Filling) : Type 0 where
   pub done : Text
   pub whole : all ≡ rest ++ done
   pub written : Written done was now
+
+-- The same of lists, whatever the end, also one past the text: of `all`, which is to end before `end`, the part `rest` is still to be written,
+-- before `at`; s is the text as it was, now the text so far.
+pub record FilledTo (all rest : Text) (at end : ℕ) (s now : Text) : Type 0 where
+  pub done : Text
+  pub whole : all ≡ rest ++ done
+  pub place : at + length done ≡ end
+  pub text : now ≡ ending_at end done s

@@ -3,7 +3,7 @@
 use Rattle.std.specs.Prelude.{◌≡◌, ℕ, ◌+◌, ◌*◌, ◌-◌, ◌/◌, ◌%◌, ◌^◌, ◌<◌, ◌≤◌, Bool, true, cond, ◌&&◌, [], ◌∷◌, ◌++◌, T, ltb, leb, length, get_or}
 use Rattle.text.specs.Decimal.{Text, digit, decimal, field}
 use Rattle.text.specs.declared.Filling.{Filling}
-use Rattle.text.specs.Ending.{ending_at, StandsFrom, Written, Filled}
+use Rattle.text.specs.Ending.{ending_at, StandsFrom, Written, Filled, FilledTo}
 
 -- One digit, or the last one after those of a tenth.
 abbrev pub DecimalIs : Type 0
@@ -62,6 +62,20 @@ pub record ByParts (all : Text) (was : Filling) : Type 0 where
 abbrev pub FilledByParts : Type 0
 FilledByParts = (all : Text) (was : Filling) → ByParts all was
 
+-- The same of lists, whatever the end, also one past the text: it begins with nothing written; the last part x of what is left fits, and once
+-- it is written the text is filled further; its length stays; and where nothing is left, it ends with all that was to be written.
+pub record ByPartsTo (all : Text) (end : ℕ) (s : Text) : Type 0 where
+  pub begun : FilledTo all all end end s s
+  pub fits : (less x : Text) (at : ℕ) (now : Text) → FilledTo all (less ++ x) at end s now → length all ≤ end → end ≤ length s →
+      (length x ≤ at) × (at ≤ length now)
+  pub further : (rest : Text) (at : ℕ) (now : Text) → FilledTo all rest at end s now → end ≤ length s → (less x : Text) → rest ≡ less ++ x →
+      (start : ℕ) → start + length x ≡ at → (next : Text) → next ≡ ending_at at x now → FilledTo all less start end s next
+  pub same_length : (rest : Text) (at : ℕ) (now : Text) → FilledTo all rest at end s now → end ≤ length s → length now ≡ length s
+  pub ended : (at : ℕ) (now : Text) → FilledTo all [] at end s now → (at + length all ≡ end) × (now ≡ ending_at end all s)
+
+abbrev pub FilledToAnyEnd : Type 0
+FilledToAnyEnd = (all : Text) (end : ℕ) (s : Text) → ByPartsTo all end s
+
 -- ---- all of them
 
 pub record TextLaws : Type 0 where
@@ -72,3 +86,4 @@ pub record TextLaws : Type 0 where
   pub written_in_front : WrittenInFront
   pub stands_at_end : StandsAtEnd
   pub filled_by_parts : FilledByParts
+  pub filled_to_any_end : FilledToAnyEnd

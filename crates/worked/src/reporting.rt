@@ -26,6 +26,13 @@ fn is_right(found: Answer, due: Answer) -> bool
     found == due
 }
 
+// Whether a number, or a price, is the one that is due.
+fn is_due(number: u32, due: u32) -> bool
+    ensures { IsTrue result ↔ (number ≡ due) }
+{
+    number == due
+}
+
 // How a line ends.
 fn ending(is_right: bool) -> &'static str
     ensures { result.now ≡ (if is_right then codes "right" else codes "WRONG") }
@@ -91,7 +98,10 @@ pub(crate) fn range(
 
 // The number that an event got.
 pub(crate) fn number(rt: &impl Print, event: &str, number: u32, due: u32) -> io::Result<()> {
-    println!(rt; "{event}: {number}, due {due} {}", ending(number == due))
+    println!(rt;
+        "{event}: {number}, due {due} {}",
+        ending(is_due(number, due))
+    )
 }
 
 // A step or a limit; 0 where none is found.
@@ -110,6 +120,6 @@ pub(crate) fn price_and_not(
     let price = found.unwrap_or(0);
     println!(rt;
         "{asked}: {price}, due {due} and not {not} {}",
-        ending(price == due && price != not)
+        ending(is_due(price, due) && !is_due(price, not))
     )
 }

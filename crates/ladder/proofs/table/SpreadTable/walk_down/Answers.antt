@@ -1,5 +1,5 @@
 -- The walk down, band by band.
-use Rattle.std.proofs.Common.{◌≡◌, ◌+◌, ◌-◌, length, take, refl, sym, ap, ◌∙◌, arith}
+use Rattle.std.proofs.Common.{◌≡◌, ℕ, ◌+◌, ◌-◌, length, take, refl, sym, ap, ◌∙◌, arith}
 use Rattle.std.proofs.lemmas.List.{length-take-le}
 use native.Mathlib.Nat.{le_of_lt}
 use Rattle.ladder.proofs.Tables.Chain.{last_band}
@@ -11,7 +11,8 @@ pub loop-band-init : goal.loop-band-init
 loop-band-init c =
     let t = c.args.self.now.bands.now in
     let bands = c.into_iter-band-iterator.result.iter.rest.now in
-    let are : bands ≡ take (c.args.index + 1) t = cc in
+    let whole : c.args.index + 1 - 0 ≡ c.args.index + 1 = omega arith in
+    let are : bands ≡ take (c.args.index + 1) t = rw (c.into_iter-band-iterator.ensures.into_iter_gives, c.rev-band-items.ensures.source) (c.iter.ensures.rest ∙ ap (λ (n : ℕ). take n t) whole) in
     let count : length bands ≡ c.args.index + 1 = ap length are ∙ length-take-le (c.args.index + 1) t (omega (arith, c.requires.index)) in
     let last : length bands - 1 ≡ c.args.index = omega arith in (
       rw count are,
