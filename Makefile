@@ -6,7 +6,7 @@
 
 PREFIX = /usr/local
 DESTDIR =
-VERSION = 2.1.2
+VERSION = 2.1.3
 
 CFLAGS = -O2
 STRICT = -std=c11 -Wall -Wextra -Wpedantic -Wconversion -Werror

@@ -1,7 +1,7 @@
 // A batch: many questions, judged into one answer buffer.
 //
 // The calls of this file are at 5 percent: `judge_batch_on` uses the table that a number names, `judge_batch` that of the calls that name none.
-// `batches::answer_each` takes terms and holds for every well-formed table and any percentage.
+// `batches::answer_each` takes terms and holds for every well-formed table of prices below 2^31 and any percentage.
 #![tactic(auto)]
 
 mod batches; // batches.rt: the checks on a batch, and its answers one after the other

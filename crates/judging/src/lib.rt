@@ -2,7 +2,7 @@
 //
 // Calls of this file that end in `_on` use the table that a number names, the others that of the calls that name none; whole questions are judged
 // at 5 percent. Functions of `showing`, `verdicts`, `second_part` and `answers` that are lent a table or terms hold for every well-formed table
-// and any percentage. Prices are whole mils.
+// of prices below 2^31 and any percentage. Prices are whole mils.
 #![tactic(auto)]
 
 pub mod showing; // showing.rt: the nine-fold rule and the shown range

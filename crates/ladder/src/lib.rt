@@ -30,8 +30,8 @@ ghost use Rattle.ladder.specs.Spreads.{spreads_up, spreads_down};
 use named::table_of;
 use tables::USUAL_TABLE;
 
-// The price at a place; none above the last place. By `#[inline(always)]` the call below is compiled with its table known: a walk over all bands
-// that reads them from memory, and divides by each spread, took three times as long.
+// The price at a place; none above the last place. By `#[inline(always)]` the call below is compiled with its table known: a walk that
+// reads each band from memory, and divides by the spread of each that it passes, took three times as long.
 #[tactic(auto, using(crate::proofs::ByNumber::none), unfolding(crate::specs::Places::price_at))]
 #[inline(always)]
 pub fn price_at_on(table: u32, place: u32) -> Option<u32>

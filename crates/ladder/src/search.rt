@@ -88,6 +88,7 @@ impl SpreadTable<'_> {
 
     // The band that holds y / scale, among those from the first index on, below the end. Where y lies between their ends the bands that
     // end below it are counted, with no jump that depends on y.
+    #[inline(always)]
     fn sought_between(&self, first: usize, end: usize, scale: u32, y: u64) -> Option<usize>
         requires some { first < end }
         requires there { end ≤ length self.now.bands.now }

@@ -2,7 +2,7 @@
 //
 // Of each call there are two, both with 5 percent: `lower_limit_on` and so on use the table that a number names, and answer nothing where it names
 // none; `lower_limit` and so on use the table of the calls that name none. `Terms` has the same calls as methods; their contracts hold for every
-// well-formed table and any percentage. Prices are whole mils.
+// well-formed table of prices below 2^31 and any percentage. Prices are whole mils.
 #![tactic(auto)]
 
 mod percent; // percent.rt: the percentage limits by themselves

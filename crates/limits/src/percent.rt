@@ -8,6 +8,7 @@ use ladder::numbers::product;
 
 impl Terms<'_> {
     // The smallest ladder price q with scale * q at least lower * reference, or the last price where there is none.
+    #[inline(always)]
     pub(crate) fn rounded_up(&self, reference: u32) -> u32
         ensures { result ≡ percent_lower (prices_of self.now.table) self.now.percentage reference }
     {
@@ -18,6 +19,7 @@ impl Terms<'_> {
     }
 
     // The largest ladder price q with scale * q at most upper * reference, or the first price where there is none.
+    #[inline(always)]
     pub(crate) fn rounded_down(&self, reference: u32) -> u32
         ensures { result ≡ percent_upper (prices_of self.now.table) self.now.percentage reference }
     {

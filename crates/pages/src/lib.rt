@@ -1,5 +1,5 @@
 // The text of pricecheck: a line for each question, and one for the bytes that are left over; or the line of why there is nothing to judge by.
-// Pages are written for every well-formed table and any percentage.
+// Pages are written for every well-formed table of prices below 2^31 and any percentage.
 #![tactic(auto)]
 
 pub mod lines; // lines.rt: the lines, from the last to the first

@@ -2,7 +2,7 @@
 // part, a price against such a range, is in the crate `judging` above.
 //
 // The calls of this file are at 5 percent: `prepare_on` uses the table that a number names, `prepare` that of the calls that name none. Functions of
-// `first_part` are lent terms and hold for every well-formed table and any percentage. Prices are whole mils.
+// `first_part` are lent terms and hold for every well-formed table of prices below 2^31 and any percentage. Prices are whole mils.
 #![tactic(auto)]
 
 pub mod first_part; // first_part.rt: the first part, by terms that are lent

@@ -1,5 +1,5 @@
 // The two limits of a reference, and nine spreads from it. Each is missing where the reference is missing, and from a price outside
-// the ladder's ends too, which check 3 refuses before.
+// the ladder's ends too, which check 3 refuses before. By `#[inline(always)]` the limits are compiled with what a caller knows of its table.
 ghost use Rattle.std.specs.Prelude.{◌≡◌};
 ghost use Rattle.ladder.specs.Layout.{prices_of};
 ghost use Rattle.limits.specs.Limits.{lower_limit_found, upper_limit_found};
@@ -13,6 +13,7 @@ use questions::Reference;
 const ENHANCED_SPREADS: u64 = 9;
 
 // The lower limit of a reference.
+#[inline(always)]
 pub fn lower_limit(terms: &Terms, reference: Reference) -> Reference
     ensures { result ≡ from_reference (lower_limit_found (prices_of terms.now.table) terms.now.percentage) reference }
 {
@@ -23,6 +24,7 @@ pub fn lower_limit(terms: &Terms, reference: Reference) -> Reference
 }
 
 // The upper limit of a reference.
+#[inline(always)]
 pub fn upper_limit(terms: &Terms, reference: Reference) -> Reference
     ensures { result ≡ from_reference (upper_limit_found (prices_of terms.now.table) terms.now.percentage) reference }
 {

@@ -1,6 +1,6 @@
 // The reading of a question: the range that the rules permit, or why it has none.
 //
-// Functions that take terms hold for every well-formed table and any percentage.
+// Functions that take terms hold for every well-formed table of prices below 2^31 and any percentage.
 #![tactic(auto)]
 
 pub mod bounds; // bounds.rt: limits and nine spreads of a reference

@@ -34,6 +34,7 @@ impl TradeReferences {
 }
 
 // The lowest price of a trade.
+#[inline(always)]
 fn lowest_of(terms: &Terms, references: TradeReferences) -> u32
     ensures { result ≡ trade_lowest (prices_of terms.now.table) terms.now.percentage references }
 {
@@ -46,6 +47,7 @@ fn lowest_of(terms: &Terms, references: TradeReferences) -> u32
 }
 
 // The highest price of a trade.
+#[inline(always)]
 fn highest_of(terms: &Terms, references: TradeReferences) -> u32
     ensures { result ≡ trade_highest (prices_of terms.now.table) terms.now.percentage references }
 {
@@ -59,6 +61,7 @@ fn highest_of(terms: &Terms, references: TradeReferences) -> u32
 
 // The reading of a trade's references.
 #[tactic(auto, unfolding(crate::specs::Trades::trade_reading))]
+#[inline(always)]
 pub fn reading_of(terms: &Terms, references: TradeReferences) -> Reading
     ensures { result ≡ trade_reading (prices_of terms.now.table) terms.now.percentage references }
 {

@@ -29,6 +29,7 @@ pub fn verdict_on(table: &SpreadTable, range: Range, price: u32) -> Verdict
 
 // The answer to a trade.
 #[tactic(auto, unfolding(crate::specs::Trades::trade_judged))]
+#[inline(always)]
 pub fn judge(terms: &Terms, price: u32, references: TradeReferences) -> Answer
     ensures { result ≡ trade_judged (prices_of terms.now.table) terms.now.percentage price references }
 {
@@ -45,6 +46,7 @@ pub fn judge(terms: &Terms, price: u32, references: TradeReferences) -> Answer
 }
 
 // The answer to a trade, for a call that names its terms.
+#[inline(always)]
 pub fn judge_by(found: &Result<Terms, BadTerms>, price: u32, references: TradeReferences) -> Answer
     ensures { result ≡ trade_judged_by (basis_found found.now) price references }
 {
