@@ -4,8 +4,8 @@
 // Functions of `readings` and `verdicts` that are lent a table or terms hold for every well-formed table of prices below 2^31 and any percentage.
 // Prices are whole mils.
 //
-// By `#[inline(always)]`, here, in `readings`, in `verdicts` and in the limits below, `judge_trade` is compiled with its table known, but for the
-// check of bids and asks. By calls it took 1.4 times as many instructions.
+// By `#[inline(always)]`, in all files here and on the limits in the crates `ranges` and `limits`, `judge_trade` is compiled with its table known,
+// but for the check of bids and asks. By calls it took 1.4 times as many instructions.
 #![tactic(auto)]
 
 pub mod readings; // readings.rt: the reading of a trade's references: its range, or why it has none
